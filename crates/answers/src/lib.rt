@@ -1,0 +1,2 @@
+// What the receiver and the writers answer, said once for all layers.
+pub mod refusal;

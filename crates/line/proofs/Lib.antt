@@ -1,0 +1,14 @@
+pub mod Register
+pub mod Pack
+pub mod Decoding
+pub mod Lengths
+pub mod Sending
+pub mod Runs
+pub mod Views
+pub mod Listens
+pub mod Places
+pub mod Octets
+pub mod Bodies
+pub mod Answering
+pub mod Counting
+pub mod Whole

@@ -1,0 +1,10 @@
+pub mod Bits
+pub mod Fcs
+pub mod Stuffing
+pub mod Flags
+pub mod Burst
+pub mod Hearing
+pub mod Packing
+pub mod Sending
+pub mod Listening
+pub mod Scanning

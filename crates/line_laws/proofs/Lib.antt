@@ -1,0 +1,9 @@
+pub mod Firsts
+pub mod Openings
+pub mod Unstuffed
+pub mod Residues
+pub mod Passed
+pub mod Trip
+pub mod Framed
+pub mod Returned
+pub mod Tables
