@@ -1,0 +1,5 @@
+pub mod Turns
+pub mod Absorbing
+pub mod Exact
+pub mod Writing
+pub mod Choosing

@@ -1,0 +1,3 @@
+pub mod Sha256
+pub mod Absorbed
+pub mod Laws
