@@ -1,0 +1,5 @@
+pub mod Marks
+pub mod Telling
+pub mod Piling
+pub mod Placing
+pub mod Imaging

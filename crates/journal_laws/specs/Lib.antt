@@ -1,0 +1,5 @@
+pub mod Runs
+pub mod Calls
+pub mod Piles
+pub mod Places
+pub mod Images

@@ -1,0 +1,4 @@
+pub mod Filling
+pub mod Images
+pub mod Tables
+pub mod Pairs

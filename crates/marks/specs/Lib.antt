@@ -1,0 +1,5 @@
+pub mod Positions
+pub mod Device
+pub mod State
+pub mod Table
+pub mod Octets

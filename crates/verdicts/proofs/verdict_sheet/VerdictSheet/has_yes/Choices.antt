@@ -1,0 +1,10 @@
+use mathlib.Core.Path.{_≡_}
+use Rattle.std.specs.Parts.{chunks-exact-rest, chunks-exact-size}
+use Rattle.verdicts.specs.Rows.{rowsOf, someRow}
+use Rattle.verdicts.specs.Verdicts.{isYes}
+use Rattle.verdicts.proofs.verdict_sheet.VerdictSheet.has_yes.Given as given
+
+-- the rows that are left answer as the whole sheet does
+abbrev pub Inv-loop-row : given.InvT-loop-row
+Inv-loop-row l =
+    (chunks-exact-size (l .row-iterator) ≡ 82) × (someRow (isYes (l .kid) (l .alg) (l .transcript) (l .signature)) (rowsOf 82 (chunks-exact-rest (l .row-iterator))) ≡ someRow (isYes (l .kid) (l .alg) (l .transcript) (l .signature)) (rowsOf 82 (l .self .octets .now)))
