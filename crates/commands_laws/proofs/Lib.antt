@@ -1,0 +1,6 @@
+pub mod Counting
+pub mod Leaves
+pub mod Orderings
+pub mod Releasing
+pub mod Rising
+pub mod Sent

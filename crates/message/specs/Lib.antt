@@ -1,0 +1,6 @@
+pub mod Entries
+pub mod Parts
+pub mod Messages
+pub mod Sizes
+pub mod Checks
+pub mod Fields

@@ -1,0 +1,11 @@
+pub mod Ways
+pub mod Mids
+pub mod Cmds
+pub mod Auths
+pub mod Views
+pub mod Valids
+pub mod Exactly
+pub mod Splices
+pub mod Checking
+pub mod Scanning
+pub mod Sizing
