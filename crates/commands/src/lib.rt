@@ -1,4 +1,5 @@
 // Commands: which types there are, what arguments each has, and which may be released.
+#![tactic(auto)]
 mod arguments;
 mod release;
 mod requests;

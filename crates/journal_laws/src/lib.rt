@@ -1,4 +1,5 @@
 // Laws of stores, floors and journals, on the calls that carry them out.
+#![tactic(auto)]
 pub mod call;
 pub mod floors;
 pub mod images;

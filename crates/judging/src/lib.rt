@@ -1,4 +1,5 @@
 // Judging a burst: every question in its order, and the one write that a release makes.
+#![tactic(auto)]
 pub mod answer;
 mod bursts;
 mod stages;

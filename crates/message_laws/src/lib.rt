@@ -1,2 +1,3 @@
 // What reading a message means: the laws above the reader, each on a call.
+#![tactic(auto)]
 pub mod laws;

@@ -1,4 +1,5 @@
 // The program: a demonstration, a day as an example, scripts of calls, and commands on files.
+#![tactic(auto)]
 mod arguments;
 mod day;
 mod demonstration;
