@@ -24,10 +24,10 @@ fn listen_over<S: Store, V: Verifier>(
     catalog: &[u64],
     work: &mut [u8],
 ) -> (Answer, S)
-    ensures goes { ListenGoesOn (inputs_by known good verifier.now burst.now listening catalog.now (length work.old)) (state store) result.0 (state result.1) }
-    ensures memory { StoreMoves touches store result.0.verdict result.1 }
-    ensures work { work.new ≡ laid (length work.old) (left_at result.0.verdict (message_heard (inputs_by known good verifier.now burst.now listening catalog.now (length work.old)))) }
-    ensures sent { SentIf (inputs_by known good verifier.now burst.now listening catalog.now (length work.old)) result.0.verdict result.0.next }
+    ensures goes { ListenGoesOn (inputs_by V.known V.good verifier.now burst.now listening catalog.now (length work.old)) (S.state store) result.0 (S.state result.1) }
+    ensures memory { StoreMoves S.touches store result.0.verdict result.1 }
+    ensures work { work.new ≡ laid (length work.old) (left_at result.0.verdict (message_heard (inputs_by V.known V.good verifier.now burst.now listening catalog.now (length work.old)))) }
+    ensures sent { SentIf (inputs_by V.known V.good verifier.now burst.now listening catalog.now (length work.old)) result.0.verdict result.0.next }
 {
     let mut receiver = Receiver::new(store);
     let answer = receiver.listen(verifier, burst, listening, catalog, work);
@@ -44,10 +44,10 @@ pub fn listen_under<S: Store, V: Verifier>(
     catalog: &[u64],
     work: &mut [u8],
 ) -> (Answer, S)
-    ensures goes { ListenGoesOn (inputs_by known good verifier.now burst.now listening catalog.now (length work.old)) (floor_on floor (state store)) result.0 (floor_on floor (state result.1)) }
-    ensures memory { StoreMoves touches store result.0.verdict result.1 }
-    ensures work { work.new ≡ laid (length work.old) (left_at result.0.verdict (message_heard (inputs_by known good verifier.now burst.now listening catalog.now (length work.old)))) }
-    ensures sent { SentIf (inputs_by known good verifier.now burst.now listening catalog.now (length work.old)) result.0.verdict result.0.next }
+    ensures goes { ListenGoesOn (inputs_by V.known V.good verifier.now burst.now listening catalog.now (length work.old)) (floor_on floor (S.state store)) result.0 (floor_on floor (S.state result.1)) }
+    ensures memory { StoreMoves S.touches store result.0.verdict result.1 }
+    ensures work { work.new ≡ laid (length work.old) (left_at result.0.verdict (message_heard (inputs_by V.known V.good verifier.now burst.now listening catalog.now (length work.old)))) }
+    ensures sent { SentIf (inputs_by V.known V.good verifier.now burst.now listening catalog.now (length work.old)) result.0.verdict result.0.next }
 {
     match floor {
         None => listen_over(store, verifier, burst, listening, catalog, work),
@@ -61,7 +61,7 @@ pub fn listen_under<S: Store, V: Verifier>(
 
 /// A pair's mark under a floor of this epoch, if there is one; the store comes back as it was.
 pub fn mark_under<S: Store>(store: S, floor: Option<u64>, pair: Pair) -> (Option<Mark>, S)
-    ensures mark { result.0 ≡ (floor_on floor (state store)).mark pair }
+    ensures mark { result.0 ≡ (floor_on floor (S.state store)).mark pair }
     ensures store { result.1 ≡ store }
 {
     match floor {

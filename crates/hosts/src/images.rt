@@ -28,9 +28,9 @@ fn listen_on<'a, V: Verifier>(
     work: &mut [u8],
 ) -> (Answer, Supply, &'a mut [u8])
     ensures lender { result.2.ghost_name ≡ image.entry.ghost_name }
-    ensures heard { ListenedIn (inputs_by known good verifier.now burst.now listening catalog.now (length work.old)) image.old supply result.0 result.2.now result.1 }
-    ensures work { work.new ≡ laid (length work.old) (left_at result.0.verdict (message_heard (inputs_by known good verifier.now burst.now listening catalog.now (length work.old)))) }
-    ensures sent { SentIf (inputs_by known good verifier.now burst.now listening catalog.now (length work.old)) result.0.verdict result.0.next }
+    ensures heard { ListenedIn (inputs_by V.known V.good verifier.now burst.now listening catalog.now (length work.old)) image.old supply result.0 result.2.now result.1 }
+    ensures work { work.new ≡ laid (length work.old) (left_at result.0.verdict (message_heard (inputs_by V.known V.good verifier.now burst.now listening catalog.now (length work.old)))) }
+    ensures sent { SentIf (inputs_by V.known V.good verifier.now burst.now listening catalog.now (length work.old)) result.0.verdict result.0.next }
 {
     let cells = ImageCells::new(image, supply.on, supply.charge, supply.leaves);
     let journal = Journal::resume(cells, supply.last);
@@ -65,9 +65,9 @@ pub fn listen_in<V: Verifier>(
     catalog: &[u64],
     work: &mut [u8],
 ) -> Answer
-    ensures heard { ListenedIn (inputs_by known good verifier.now burst.now listening catalog.now (length work.old)) image.old supply.old result image.new supply.new }
-    ensures work { work.new ≡ laid (length work.old) (left_at result.verdict (message_heard (inputs_by known good verifier.now burst.now listening catalog.now (length work.old)))) }
-    ensures sent { SentIf (inputs_by known good verifier.now burst.now listening catalog.now (length work.old)) result.verdict result.next }
+    ensures heard { ListenedIn (inputs_by V.known V.good verifier.now burst.now listening catalog.now (length work.old)) image.old supply.old result image.new supply.new }
+    ensures work { work.new ≡ laid (length work.old) (left_at result.verdict (message_heard (inputs_by V.known V.good verifier.now burst.now listening catalog.now (length work.old)))) }
+    ensures sent { SentIf (inputs_by V.known V.good verifier.now burst.now listening catalog.now (length work.old)) result.verdict result.next }
 {
     let (answer, left, _back) = listen_on(
         image, *supply, verifier, burst, listening, catalog, work,

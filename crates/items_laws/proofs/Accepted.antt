@@ -1,6 +1,6 @@
 -- What is read with every head shortest and the keys ascending is the encoding of a tree within the limits.
 use denote.Slice.{shr_slice_at}
-use Rattle.std.proofs.Common.{◌≡◌, ℕ, zero, suc, ◌+◌, ◌-◌, ◌*◌, ◌/◌, ◌%◌, ◌^◌, ◌<◌, ◌≤◌, Bool, true, false, ◌&&◌, leb, List, [], ◌∷◌, ◌++◌, length, get_or, take, drop, Some, None, Ok, Err, Option, Result, sym, refl, ap, ◌∙◌, subst, ⊎_elim, append-nil, add-zero, pow_suc, arith, lit<, length-append, length-drop, length-take-le, get_or-drop, get_or-take}
+use Rattle.std.proofs.Common.{◌≡◌, ℕ, zero, suc, ◌+◌, ◌-◌, ◌*◌, ◌/◌, ◌%◌, ◌^◌, ◌<◌, ◌≤◌, Bool, true, false, ◌&&◌, leb, List, [], ◌∷◌, ◌++◌, length, get_or, take, drop, Some, None, Ok, Err, Option, Result, sym, refl, ap, ◌∙◌, subst, ⊎_elim, append-nil, add-zero, pow-suc, arith, lit<, length-append, length-drop, length-take-le, get_or-drop, get_or-take}
 use Rattle.std.proofs.lemmas.List.{get_or_append_left, get_or-append-add, get_or_at}
 use Rattle.std.proofs.lemmas.Bool.Decides.{nat_tests, eqb_tells}
 use Rattle.std.proofs.lemmas.Bool.{cases_Bool, and_parts}
@@ -26,7 +26,7 @@ never p q = let z : ◌≡◌ {A = ℕ} 0 1 = cc in omega arith
 module _ (os : List ℕ) (octet : (i : ℕ) → get_or os i 0 < 256) where
   number_lt : (p k : ℕ) → big_endian os p k < 256 ^ k
   number_lt p zero = lit< tt
-  number_lt p (suc k) = rw pow_suc (omega (arith, number_lt p k, octet (p + k)))
+  number_lt p (suc k) = rw pow-suc (omega (arith, number_lt p k, octet (p + k)))
 
   at_more : (p : ℕ) (xs : List ℕ) → At os p xs → p + length xs < length os → At os p (xs ++ (get_or os (p + length xs) 0 ∷ []))
   at_more p xs a room =

@@ -208,7 +208,7 @@ text-back os p bs q good r =
     let b = string-back os 3 p bs q good.fits r in
     let s : Span = b.0 in
     let e : part os s.start s.len ≡ bs = ap (part os s.start) b.2.long ∙ at_part os s.start bs b.2.there in
-    (s, text-good os p s q (sym b.1) (ap is_text e ∙ good.is-text), b.2)
+    (s, text-good os p s q (sym b.1) (ap is_text e ∙ good.is_text), b.2)
 
 pub text-exact : TextExact
 text-exact = record { sound = text-sound; back = text-back }

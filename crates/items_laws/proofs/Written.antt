@@ -1,5 +1,5 @@
 -- A head that stands at a place is read there.
-use Rattle.std.proofs.Common.{◌≡◌, ℕ, zero, suc, ◌+◌, ◌*◌, ◌/◌, ◌%◌, ◌^◌, ◌<◌, ◌≤◌, true, List, [], ◌∷◌, ◌++◌, length, get_or, drop, Ok, sym, refl, ap, ◌∙◌, subst, ⊎_elim, add-zero, pow_suc, arith, length-append, length-drop, length-take-le, get_or-drop, get_or-take}
+use Rattle.std.proofs.Common.{◌≡◌, ℕ, zero, suc, ◌+◌, ◌*◌, ◌/◌, ◌%◌, ◌^◌, ◌<◌, ◌≤◌, true, List, [], ◌∷◌, ◌++◌, length, get_or, drop, Ok, sym, refl, ap, ◌∙◌, subst, ⊎_elim, add-zero, pow-suc, arith, length-append, length-drop, length-take-le, get_or-drop, get_or-take}
 use Rattle.std.proofs.str.Laws.{order}
 use Rattle.items.specs.Heads.{part}
 use Rattle.std.proofs.lemmas.List.{same_lists, get_or_default, get_or_append_left, get_or-append-add}
@@ -49,7 +49,7 @@ length-octets (suc k) n = length-append (octets_of k (n / 256)) ((n % 256) ∷ [
 pub number-octets : (k n : ℕ) (os : List ℕ) (p : ℕ) → At os p (octets_of k n) → n < 256 ^ k → big_endian os p k ≡ n
 number-octets zero n os p a h = omega arith
 number-octets (suc k) n os p a h =
-    let m : n < 256 ^ k * 256 = rw pow_suc at h in
+    let m : n < 256 ^ k * 256 = rw pow-suc at h in
     let high = number-octets k (n / 256) os p (at_left os p (octets_of k (n / 256)) _ a) (omega arith) in
     let low = at_first os (p + length (octets_of k (n / 256))) (n % 256) [] (at_right os p (octets_of k (n / 256)) _ a) in
     let low' : get_or os (p + k) 0 ≡ n % 256 = ap (λ j. get_or os (p + j) 0) (sym (length-octets k (n / 256))) ∙ low in

@@ -12,8 +12,8 @@ use marks::store::Store;
 
 // The cell that gives a pair's mark: its highest record, and the lowest cell of equals.
 pub fn find_source<C: Cells>(journal: &Journal<C>, pair: Pair) -> Option<Source>
-    ensures is { IsSource (device journal.now.cells).cells pair (length (device journal.now.cells).cells) result }
-    ensures mark { option_map (λ s. s.mark) result ≡ mark_in (device journal.now.cells).cells pair }
+    ensures is { IsSource (C.device journal.now.cells).cells pair (length (C.device journal.now.cells).cells) result }
+    ensures mark { option_map (λ s. s.mark) result ≡ mark_in (C.device journal.now.cells).cells pair }
     ensures one { SourceLaw }
 {
     journal.source(pair)
@@ -21,8 +21,8 @@ pub fn find_source<C: Cells>(journal: &Journal<C>, pair: Pair) -> Option<Source>
 
 // The cell that the next raise writes.
 pub fn find_next<C: Cells>(journal: &Journal<C>) -> Option<usize>
-    ensures first { FirstFree (device journal.now.cells).cells (start_after journal.now.last) result }
-    ensures safe { IfSome result (λ k. Expendable (device journal.now.cells).cells k) }
+    ensures first { FirstFree (C.device journal.now.cells).cells (start_after journal.now.last) result }
+    ensures safe { IfSome result (λ k. Expendable (C.device journal.now.cells).cells k) }
     ensures free { FreeLaw }
 {
     journal.next_cell()
@@ -30,7 +30,7 @@ pub fn find_next<C: Cells>(journal: &Journal<C>) -> Option<usize>
 
 // Whether some cell is free: then every pair has room.
 pub fn has_free<C: Cells>(journal: &Journal<C>, pair: Pair) -> bool
-    ensures { Decides result (FreeCell (device journal.now.cells).cells) }
+    ensures { Decides result (FreeCell (C.device journal.now.cells).cells) }
 {
     journal.has_room(pair)
 }

@@ -9,7 +9,7 @@ use marks::store::Store;
 
 // One call. Every run of any store obeys the law of runs, and a state fixes the answer of a raise.
 pub fn carry_out<S: Store>(store: &mut S, call: Call) -> Reply
-    ensures carries { Carries state touches rests store.old call result store.new }
+    ensures carries { Carries S.state S.touches S.rests store.old call result store.new }
     ensures law { Law }
     ensures one { OneAnswer }
 {
@@ -24,9 +24,9 @@ pub fn carry_out<S: Store>(store: &mut S, call: Call) -> Reply
 
 // Calls one after another, until calls or places for replies end; says how many were carried out.
 pub fn run<S: Store>(store: &mut S, calls: &[Call], replies: &mut [Reply]) -> usize
-    ensures ran { Ran state touches rests store.old calls.now replies.old result replies.new store.new }
-    ensures rising { (q : Pair) → NotLower ((state store.old).mark q) ((state store.new).mark q) }
-    ensures spared { (q : Pair) → Spared q (take result calls.now) → (state store.new).mark q ≡ (state store.old).mark q }
+    ensures ran { Ran S.state S.touches S.rests store.old calls.now replies.old result replies.new store.new }
+    ensures rising { (q : Pair) → NotLower ((S.state store.old).mark q) ((S.state store.new).mark q) }
+    ensures spared { (q : Pair) → Spared q (take result calls.now) → (S.state store.new).mark q ≡ (S.state store.old).mark q }
 {
     let n = calls.len().min(replies.len());
     for i in 0..n {

@@ -51,11 +51,11 @@ fn judge_frame<S: Store, V: Verifier>(
     size: usize,
     next: usize,
 ) -> Answer
-    requires on { (state store.old).on ≡ true }
+    requires on { (S.state store.old).on ≡ true }
     requires fits { size ≤ length work.old }
-    ensures answer { result ≡ first (message_questions (conditions_by known good verifier.now listening catalog.now) (state store.old) next (take size work.old)) }
-    ensures leaves { Leaves (offered (message_questions (conditions_by known good verifier.now listening catalog.now) (state store.old) next (take size work.old))) (state store.old) result.verdict (state store.new) }
-    ensures memory { StoreMoves touches store.old result.verdict store.new }
+    ensures answer { result ≡ first (message_questions (conditions_by V.known V.good verifier.now listening catalog.now) (S.state store.old) next (take size work.old)) }
+    ensures leaves { Leaves (offered (message_questions (conditions_by V.known V.good verifier.now listening catalog.now) (S.state store.old) next (take size work.old))) (S.state store.old) result.verdict (S.state store.new) }
+    ensures memory { StoreMoves S.touches store.old result.verdict store.new }
     ensures work { work.new ≡ laid (length work.old) (left_at result.verdict (take size work.old)) }
 {
     let answer = judge_message(store, verifier, listening, catalog, &work[0..size], next);
@@ -75,10 +75,10 @@ pub fn judge<S: Store, V: Verifier>(
     catalog: &[u64],
     work: &mut [u8],
 ) -> Answer
-    ensures answer { result ≡ first (questions (inputs_by known good verifier.now burst.now listening catalog.now (length work.old)) (state store.old)) }
-    ensures leaves { Leaves (offered (questions (inputs_by known good verifier.now burst.now listening catalog.now (length work.old)) (state store.old))) (state store.old) result.verdict (state store.new) }
-    ensures memory { StoreMoves touches store.old result.verdict store.new }
-    ensures work { work.new ≡ laid (length work.old) (left_at result.verdict (message_heard (inputs_by known good verifier.now burst.now listening catalog.now (length work.old)))) }
+    ensures answer { result ≡ first (questions (inputs_by V.known V.good verifier.now burst.now listening catalog.now (length work.old)) (S.state store.old)) }
+    ensures leaves { Leaves (offered (questions (inputs_by V.known V.good verifier.now burst.now listening catalog.now (length work.old)) (S.state store.old))) (S.state store.old) result.verdict (S.state store.new) }
+    ensures memory { StoreMoves S.touches store.old result.verdict store.new }
+    ensures work { work.new ≡ laid (length work.old) (left_at result.verdict (message_heard (inputs_by V.known V.good verifier.now burst.now listening catalog.now (length work.old)))) }
 {
     if let Err(refusal) = admit(burst, listening.count, listening.start, work) {
         clear(work);

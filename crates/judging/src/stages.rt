@@ -73,11 +73,11 @@ fn repeats(kept: Option<Mark>, mark: Mark) -> bool
 
 // Room, and the write.
 fn raise<S: Store>(store: &mut S, release: Release, next: usize) -> Answer
-    requires on { (state store.old).on ≡ true }
-    requires higher { above ((state store.old).mark release.pair) release.mark.position ≡ true }
-    ensures answer { result ≡ first (raise_questions (state store.old) next release) }
-    ensures leaves { Leaves (offered (raise_questions (state store.old) next release)) (state store.old) result.verdict (state store.new) }
-    ensures memory { StoreMoves touches store.old result.verdict store.new }
+    requires on { (S.state store.old).on ≡ true }
+    requires higher { above ((S.state store.old).mark release.pair) release.mark.position ≡ true }
+    ensures answer { result ≡ first (raise_questions (S.state store.old) next release) }
+    ensures leaves { Leaves (offered (raise_questions (S.state store.old) next release)) (S.state store.old) result.verdict (S.state store.new) }
+    ensures memory { StoreMoves S.touches store.old result.verdict store.new }
 {
     let true = store.has_room(release.pair) else {
         return refuse(Refusal::NoRoom, next);
@@ -103,12 +103,12 @@ fn judge_command<S: Store>(
     mark: Mark,
     next: usize,
 ) -> Answer
-    requires on { (state store.old).on ≡ true }
-    requires higher { above ((state store.old).mark (pair_of message.view)) mark.position ≡ true }
+    requires on { (S.state store.old).on ≡ true }
+    requires higher { above ((S.state store.old).mark (pair_of message.view)) mark.position ≡ true }
     requires mark { mark ≡ mark_of message.octets.now message.view }
-    ensures answer { result ≡ first (command_questions suspect catalog.now (state store.old) next message.entry.octets.now message.entry.view) }
-    ensures leaves { Leaves (offered (command_questions suspect catalog.now (state store.old) next message.entry.octets.now message.entry.view)) (state store.old) result.verdict (state store.new) }
-    ensures memory { StoreMoves touches store.old result.verdict store.new }
+    ensures answer { result ≡ first (command_questions suspect catalog.now (S.state store.old) next message.entry.octets.now message.entry.view) }
+    ensures leaves { Leaves (offered (command_questions suspect catalog.now (S.state store.old) next message.entry.octets.now message.entry.view)) (S.state store.old) result.verdict (S.state store.new) }
+    ensures memory { StoreMoves S.touches store.old result.verdict store.new }
 {
     let cmd = message.view.cmd;
     let true = is_listed(cmd.kind) else {
@@ -142,11 +142,11 @@ fn judge_mark<S: Store, V: Verifier>(
     mark: Mark,
     next: usize,
 ) -> Answer
-    requires on { (state store.old).on ≡ true }
+    requires on { (S.state store.old).on ≡ true }
     requires mark { mark ≡ mark_of message.octets.now message.view }
-    ensures answer { result ≡ first (mark_questions (conditions_by known good verifier.now listening catalog.now) (state store.old) next message.entry.octets.now message.entry.view) }
-    ensures leaves { Leaves (offered (mark_questions (conditions_by known good verifier.now listening catalog.now) (state store.old) next message.entry.octets.now message.entry.view)) (state store.old) result.verdict (state store.new) }
-    ensures memory { StoreMoves touches store.old result.verdict store.new }
+    ensures answer { result ≡ first (mark_questions (conditions_by V.known V.good verifier.now listening catalog.now) (S.state store.old) next message.entry.octets.now message.entry.view) }
+    ensures leaves { Leaves (offered (mark_questions (conditions_by V.known V.good verifier.now listening catalog.now) (S.state store.old) next message.entry.octets.now message.entry.view)) (S.state store.old) result.verdict (S.state store.new) }
+    ensures memory { StoreMoves S.touches store.old result.verdict store.new }
 {
     let kept = store.mark(pair_of(&message.view));
     let false = repeats(kept, mark) else {
@@ -177,10 +177,10 @@ fn judge_signature<S: Store, V: Verifier>(
     message: Message<'_>,
     next: usize,
 ) -> Answer
-    requires on { (state store.old).on ≡ true }
-    ensures answer { result ≡ first (signature_questions (conditions_by known good verifier.now listening catalog.now) (state store.old) next message.entry.octets.now message.entry.view) }
-    ensures leaves { Leaves (offered (signature_questions (conditions_by known good verifier.now listening catalog.now) (state store.old) next message.entry.octets.now message.entry.view)) (state store.old) result.verdict (state store.new) }
-    ensures memory { StoreMoves touches store.old result.verdict store.new }
+    requires on { (S.state store.old).on ≡ true }
+    ensures answer { result ≡ first (signature_questions (conditions_by V.known V.good verifier.now listening catalog.now) (S.state store.old) next message.entry.octets.now message.entry.view) }
+    ensures leaves { Leaves (offered (signature_questions (conditions_by V.known V.good verifier.now listening catalog.now) (S.state store.old) next message.entry.octets.now message.entry.view)) (S.state store.old) result.verdict (S.state store.new) }
+    ensures memory { StoreMoves S.touches store.old result.verdict store.new }
 {
     let auth = message.view.auth;
     let true = verifier.knows(&auth.kid, auth.alg) else {
@@ -206,10 +206,10 @@ fn judge_fields<S: Store, V: Verifier>(
     message: Message<'_>,
     next: usize,
 ) -> Answer
-    requires on { (state store.old).on ≡ true }
-    ensures answer { result ≡ first (field_questions (conditions_by known good verifier.now listening catalog.now) (state store.old) next message.entry.octets.now message.entry.view) }
-    ensures leaves { Leaves (offered (field_questions (conditions_by known good verifier.now listening catalog.now) (state store.old) next message.entry.octets.now message.entry.view)) (state store.old) result.verdict (state store.new) }
-    ensures memory { StoreMoves touches store.old result.verdict store.new }
+    requires on { (S.state store.old).on ≡ true }
+    ensures answer { result ≡ first (field_questions (conditions_by V.known V.good verifier.now listening catalog.now) (S.state store.old) next message.entry.octets.now message.entry.view) }
+    ensures leaves { Leaves (offered (field_questions (conditions_by V.known V.good verifier.now listening catalog.now) (S.state store.old) next message.entry.octets.now message.entry.view)) (S.state store.old) result.verdict (S.state store.new) }
+    ensures memory { StoreMoves S.touches store.old result.verdict store.new }
 {
     let true = message.profile_matches() else {
         return refuse(Refusal::ProfileMismatch, next);
@@ -232,10 +232,10 @@ pub(crate) fn judge_message<S: Store, V: Verifier>(
     octets: &[u8],
     next: usize,
 ) -> Answer
-    requires on { (state store.old).on ≡ true }
-    ensures answer { result ≡ first (message_questions (conditions_by known good verifier.now listening catalog.now) (state store.old) next octets.now) }
-    ensures leaves { Leaves (offered (message_questions (conditions_by known good verifier.now listening catalog.now) (state store.old) next octets.now)) (state store.old) result.verdict (state store.new) }
-    ensures memory { StoreMoves touches store.old result.verdict store.new }
+    requires on { (S.state store.old).on ≡ true }
+    ensures answer { result ≡ first (message_questions (conditions_by V.known V.good verifier.now listening catalog.now) (S.state store.old) next octets.now) }
+    ensures leaves { Leaves (offered (message_questions (conditions_by V.known V.good verifier.now listening catalog.now) (S.state store.old) next octets.now)) (S.state store.old) result.verdict (S.state store.new) }
+    ensures memory { StoreMoves S.touches store.old result.verdict store.new }
 {
     let message = match read(octets) {
         Ok(message) => message,

@@ -25,7 +25,7 @@ impl<S: Store> Receiver<S> {
     /// A receiver over a store in any state.
     pub fn new(store: S) -> Receiver<S>
         ensures store { result.store ≡ store }
-        ensures lawful { Lawful (made (state result.store)) }
+        ensures lawful { Lawful (made (S.state result.store)) }
     {
         Receiver { store }
     }
@@ -40,15 +40,15 @@ impl<S: Store> Receiver<S> {
 
     /// A pair's mark.
     pub fn mark(&self, pair: Pair) -> Option<Mark>
-        ensures { result ≡ (state self.now.store).mark pair }
+        ensures { result ≡ (S.state self.now.store).mark pair }
     {
         self.store.mark(pair)
     }
 
     /// Switches the store on, for n whole writes.
     pub fn switch_on(&mut self, n: u64)
-        ensures lawful { SwitchGoesOn (state self.old.store) n (state self.new.store) }
-        ensures memory { rests self.old.store self.new.store }
+        ensures lawful { SwitchGoesOn (S.state self.old.store) n (S.state self.new.store) }
+        ensures memory { S.rests self.old.store self.new.store }
     {
         self.store.switch_on(n);
     }
@@ -63,11 +63,11 @@ impl<S: Store> Receiver<S> {
         catalog: &[u64],
         work: &mut [u8],
     ) -> Answer
-        ensures answer { result ≡ first (questions (inputs_by known good verifier.now burst.now listening catalog.now (length work.old)) (state self.old.store)) }
-        ensures work { work.new ≡ laid (length work.old) (left_at result.verdict (message_heard (inputs_by known good verifier.now burst.now listening catalog.now (length work.old)))) }
-        ensures memory { StoreMoves touches self.old.store result.verdict self.new.store }
-        ensures lawful { ListenGoesOn (inputs_by known good verifier.now burst.now listening catalog.now (length work.old)) (state self.old.store) result (state self.new.store) }
-        ensures sent { SentIf (inputs_by known good verifier.now burst.now listening catalog.now (length work.old)) result.verdict result.next }
+        ensures answer { result ≡ first (questions (inputs_by V.known V.good verifier.now burst.now listening catalog.now (length work.old)) (S.state self.old.store)) }
+        ensures work { work.new ≡ laid (length work.old) (left_at result.verdict (message_heard (inputs_by V.known V.good verifier.now burst.now listening catalog.now (length work.old)))) }
+        ensures memory { StoreMoves S.touches self.old.store result.verdict self.new.store }
+        ensures lawful { ListenGoesOn (inputs_by V.known V.good verifier.now burst.now listening catalog.now (length work.old)) (S.state self.old.store) result (S.state self.new.store) }
+        ensures sent { SentIf (inputs_by V.known V.good verifier.now burst.now listening catalog.now (length work.old)) result.verdict result.next }
         ensures written { WrittenIsJudged }
         ensures law { Law }
     {

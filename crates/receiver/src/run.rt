@@ -13,7 +13,7 @@ pub fn carry_out<S: Store, V: Verifier>(
     call: &Call<'_, V>,
     buffer: &mut [u8],
 ) -> Reply
-    ensures { Carries state touches rests known good receiver.old.store buffer.old call.now result receiver.new.store buffer.new }
+    ensures { Carries S.state S.touches S.rests V.known V.good receiver.old.store buffer.old call.now result receiver.new.store buffer.new }
 {
     match call {
         Call::Listen {
@@ -40,7 +40,7 @@ pub fn run<S: Store, V: Verifier>(
     buffer: &mut [u8],
     replies: &mut [Reply],
 ) -> usize
-    ensures { Ran state touches rests known good receiver.old.store buffer.old calls.now replies.old result replies.new receiver.new.store buffer.new }
+    ensures { Ran S.state S.touches S.rests V.known V.good receiver.old.store buffer.old calls.now replies.old result replies.new receiver.new.store buffer.new }
 {
     let n = calls.len().min(replies.len());
     for i in 0..n {

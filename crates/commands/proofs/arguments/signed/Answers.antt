@@ -10,7 +10,7 @@ returns-in_err-at c = record { is = search rules; within = search rules }
 
 pub returns-in_err-number : goal.returns-in_err-number
 returns-in_err-number c = record {
-  is = c.from-residual-in_err-number.ensures ∙ sym (signed-none _ _ _ _ c.in_ok-at.ensures c.in_err-number.ensures _);
+  is = c.from_residual-in_err-number.ensures ∙ sym (signed-none _ _ _ _ c.in_ok-at.ensures c.in_err-number.ensures _);
   within = search rules;
 }
 

@@ -11,7 +11,7 @@ pub returns-in-Some : goal.returns-in-Some
 returns-in-Some c = sym (track-number _ _ _ _ c.in_ok-at.ensures _ c.in-Some.ensures)
 
 pub returns-in_err-bytes : goal.returns-in_err-bytes
-returns-in_err-bytes c = c.from-residual-in_err-bytes.ensures ∙ sym (track-none _ _ _ _ c.in_ok-at.ensures c.in_default.ensures c.in_err-bytes.ensures)
+returns-in_err-bytes c = c.from_residual-in_err-bytes.ensures ∙ sym (track-none _ _ _ _ c.in_ok-at.ensures c.in_default.ensures c.in_err-bytes.ensures)
 
 pub returns : goal.returns
 returns c = sym (track-octets _ _ _ _ c.in_ok-at.ensures c.in_default.ensures _ c.in_ok-bytes.ensures)

@@ -16,7 +16,7 @@ item-returns-then-tally-eq0 t c = record { octets = refl; is = item_none _ _ _ c
 
 pub item-returns-in_err-head : goal.item-returns-in_err-head
 item-returns-in_err-head t c =
-    let p = err_from_is_err_and c.from-residual.result c.from-residual.ensures.1 in
+    let p = err_from_is_err_and c.from_residual.result c.from_residual.ensures.1 in
     record {
       octets = c.in_err-head.ensures.octets;
       is = told_fault _ _ _ _ _ p.1 p.2 (item_no_head _ _ _ c.if-tally-eq0.false _ c.in_err-head.ensures.is);
@@ -101,7 +101,7 @@ pub array_items-returns-in_err-item : goal.array_items-returns-in_err-item
 array_items-returns-in_err-item t c =
     let same = c.loop-i.invariant.0 in
     let is = c.in_err-item.ensures.is in
-    let p = err_from_is_err_and c.from-residual.result c.from-residual.ensures.1 in
+    let p = err_from_is_err_and c.from_residual.result c.from_residual.ensures.1 in
     record {
       octets = c.in_err-item.ensures.octets ∙ same;
       is = told_fault _ _ _ _ _ p.1 p.2 (sym c.loop-i.invariant.2 ∙ items_fails _ _ _ _ _ _ c.loop-i-test.true (omega arith) _ (rw same at is));
@@ -134,7 +134,7 @@ map_entries-returns-in_err-item t c =
     let is-octets = c.octets-octets.ensures in
     let same = c.loop-i.invariant.0 in
     let is = c.in_err-item.ensures.is in
-    let p = err_from_is_err_and c.from-residual.result c.from-residual.ensures.1 in
+    let p = err_from_is_err_and c.from_residual.result c.from_residual.ensures.1 in
     let came = sym c.loop-i.invariant.4 ∙ entries_fails (item_of c.args.depth os) os c.args.count map_entries c.loop-i.i (held os c.loop-i.keys) (walk c.loop-i.reader c.loop-i.tally) c.loop-i-test.true (omega arith) _ (rw same at is) in
     record { octets = c.in_err-item.ensures.octets ∙ same ∙ is-octets; is = told_fault _ _ _ _ _ p.1 p.2 (entries_over c.args.depth c.args.count map_entries (walk c.args.reader.now c.args.tally.now) is-octets came) }
 
@@ -173,7 +173,7 @@ map_entries-returns-in_err-item-2 t c =
     let q = c.place.ensures.is in
     let ks = held os c.loop-i.keys in
     let j = c.in-Some.ensures.is ∙ (λ k. judged ks (span os (p k) (q k))) in
-    let r = err_from_is_err_and c.from-residual-in_err-item-2.result c.from-residual-in_err-item-2.ensures.1 in
+    let r = err_from_is_err_and c.from_residual-in_err-item-2.result c.from_residual-in_err-item-2.ensures.1 in
     let came = sym c.loop-i.invariant.4 ∙ entries-value_fails (item_of c.args.depth os) os c.args.count map_entries c.loop-i.i ks (walk c.loop-i.reader c.loop-i.tally) c.loop-i-test.true (omega arith) (walk c.item.new.reader c.item.new.tally) (rw same at is) c.in-Some.ascends j _ (rw same₂ at is₂) in
     record { octets = c.in_err-item-2.ensures.octets ∙ same₂ ∙ is-octets; is = told_fault _ _ _ _ _ r.1 r.2 (entries_over c.args.depth c.args.count map_entries (walk c.args.reader.now c.args.tally.now) is-octets came) }
 

@@ -8,7 +8,7 @@ use Rattle.items.proofs.map.entry.Goals.{else-head-eq-UNSIGNED-via-then-head-eq-
 
 pub returns-in_err-head : goal.returns-in_err-head
 returns-in_err-head c =
-    let p = err_from_is_err_and c.from-residual.result c.from-residual.ensures.1 in
+    let p = err_from_is_err_and c.from_residual.result c.from_residual.ensures.1 in
     rw (p.1, p.2) (record { is = entry-none _ _ _ _ c.in_err-head.ensures.is; within = tt })
 
 pub returns-then-head-key : goal.returns-then-head-key
@@ -23,7 +23,7 @@ returns-in_err-pass c =
       | else-head-eq-UNSIGNED-via-then-head-eq-UNSIGNED+else-head-key w ↦ w.if-head-key.false a
       | else-head-eq-UNSIGNED-via-else-head-eq-UNSIGNED w ↦ w.if-head-eq-UNSIGNED.false m
     ]) in
-    let p = err_from_is_err_and c.from-residual-in_err-pass.result c.from-residual-in_err-pass.ensures.1 in
+    let p = err_from_is_err_and c.from_residual-in_err-pass.result c.from_residual-in_err-pass.ensures.1 in
     rw (p.1, p.2) (record { is = entry-key_fails _ _ _ _ c.in_ok-head.ensures.is other _ c.in_err-pass.ensures.moved; within = tt })
 
 pub returns-in_err-pass-2 : goal.returns-in_err-pass-2
@@ -32,7 +32,7 @@ returns-in_err-pass-2 c =
       | else-head-eq-UNSIGNED-via-then-head-eq-UNSIGNED+else-head-key w ↦ w.if-head-key.false a
       | else-head-eq-UNSIGNED-via-else-head-eq-UNSIGNED w ↦ w.if-head-eq-UNSIGNED.false m
     ]) in
-    let p = err_from_is_err_and c.from-residual-in_err-pass-2.result c.from-residual-in_err-pass-2.ensures.1 in
+    let p = err_from_is_err_and c.from_residual-in_err-pass-2.result c.from_residual-in_err-pass-2.ensures.1 in
     let same = c.in_ok-pass.ensures.octets in
     let bad = c.in_err-pass-2.ensures.moved in
     rw (p.1, p.2) (record { is = entry-value_fails _ _ _ _ c.in_ok-head.ensures.is other _ c.in_ok-pass.ensures.moved _ (rw same at bad); within = tt })

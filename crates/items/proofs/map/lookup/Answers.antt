@@ -10,7 +10,7 @@ returns-then-place-octets c = record { back = search rules; is = find_out c.args
 
 pub returns-in_err-head : goal.returns-in_err-head
 returns-in_err-head c =
-    let p = err_from_is_err_and c.from-residual.result c.from-residual.ensures.1 in
+    let p = err_from_is_err_and c.from_residual.result c.from_residual.ensures.1 in
     let is = c.in_err-head.ensures.is in
     let got = find_none c.args.octets.now c.args.place.now c.args.key c.in_err-head.field-0.0 (cc) in
     record { back = search rules; is = p.1 ∙ ap Err p.2 ∙ got }
@@ -34,7 +34,7 @@ returns-then-i-eq-MAP_ENTRIES c =
 
 pub returns-in_err-at : goal.returns-in_err-at
 returns-in_err-at c =
-    let p = err_from_is_err_and c.from-residual-in_err-at.result c.from-residual-in_err-at.ensures.1 in
+    let p = err_from_is_err_and c.from_residual-in_err-at.result c.from_residual-in_err-at.ensures.1 in
     let got = ends_fault c.args.octets.now c.args.key c.in_ok-head.head.argument c.loop-i.i c.loop-i.guard.place.now c.new-guard.result.old c.args.place.now c.loop-i.invariant.2 c.new-guard.ensures.old c.loop-i-test.true _ _ c.at-reader-in-loop-i.ensures.octets c.at-reader-in-loop-i.ensures.place (omega arith) c.in_err-at.field-0.0 c.in_err-at.ensures.is in
     record { back = search rules; is = p.1 ∙ ap Err p.2 ∙ got }
 

@@ -7,7 +7,7 @@ use Rattle.items.proofs.message.read.Goals as goal
 
 pub returns-in_err-item : goal.returns-in_err-item
 returns-in_err-item c =
-    let p = err_from_is_err_and c.from-residual.result c.from-residual.ensures.1 in
+    let p = err_from_is_err_and c.from_residual.result c.from_residual.ensures.1 in
     let came = c.in_err-item.ensures.is in
     let is : item_of containers c.args.octets.now (start_at 0) ≡ Err c.in_err-item.field-0.0 = cc in
     p.1 ∙ ap Err p.2 ∙ read_fails _ _ is

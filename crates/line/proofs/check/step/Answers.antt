@@ -11,10 +11,10 @@ loop-i-init c = refl
 pub loop-i-preserved : goal.loop-i-preserved
 loop-i-preserved c =
     elim c.if-r-eq1.branch [
-      | then-r-eq1 w ↦ more-odd c.loop-i.-i _ c.loop-i.r c.if-r-eq1.r c.loop-i.invariant w.if-r-eq1.true w.r-is
-      | else-r-eq1 w ↦ more_even c.loop-i.-i _ c.loop-i.r c.if-r-eq1.r c.loop-i.invariant w.if-r-eq1.false w.r-is
+      | then-r-eq1 w ↦ more-odd c.loop-i._i _ c.loop-i.r c.if-r-eq1.r c.loop-i.invariant w.if-r-eq1.true w.r-is
+      | else-r-eq1 w ↦ more_even c.loop-i._i _ c.loop-i.r c.if-r-eq1.r c.loop-i.invariant w.if-r-eq1.false w.r-is
     ]
 
 pub returns : goal.returns
 unfolding step
-returns c = let e : c.loop-i.-i ≡ 8 = omega arith in rw e at c.loop-i.invariant
+returns c = let e : c.loop-i._i ≡ 8 = omega arith in rw e at c.loop-i.invariant

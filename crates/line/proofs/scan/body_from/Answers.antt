@@ -13,7 +13,7 @@ pub loop-k-init : goal.loop-k-init
 loop-k-init c =
     let o = opens c.args.burst.now c.args.count c.args.first c.args.first c.new-packer.result c.args.work.now (omega arith) (λ m h. (m, h, refl)) c.new-packer.ensures.0 c.new-packer.ensures.1 in (
       subst (λ l. Scans c.args.burst.now c.args.count c.args.first c.args.first c.args.first l c.new-packer.result c.args.work.now) (ap view (sym c.inside-listener.ensures)) o,
-      All-from_get_or (λ o. o < 256) c.args.work.now 0 (λ i h. (c.type-inv.work i).fits),
+      All-from_get_or (λ o. o < 256) c.args.work.now 0 (λ i h. (c.type_inv.work i).fits),
       c.at-decoder.ensures,
     )
 

@@ -32,7 +32,7 @@ returns-in-Ok c =
     let k = c.write.auto.out in
     let fits = w.fits in
     let room : octet_count (length (frame c.args.message.now)) ≤ length c.write.new.out = omega arith in
-    let fit = All-from_get_or (λ o. o < 256) c.args.message.now 0 (λ i h. (c.type-inv.message i).fits) in
+    let fit = All-from_get_or (λ o. o < 256) c.args.message.now 0 (λ i h. (c.type_inv.message i).fits) in
     let back = λ (enough : 16500 ≤ length c.args.work.now).
     ap (λ n. hears c.write.new.out n 0 (length c.args.work.now)) w.count
     ∙ sent-is-heard c.args.message.now c.args.burst.now c.write.new.out (length c.args.work.now) fit w.short room c.in-Ok.ensures.output enough in

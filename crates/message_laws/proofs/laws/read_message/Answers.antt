@@ -8,5 +8,5 @@ returns c = record {
   sid = c.read.ensures.sid;
   kid = c.read.ensures.kid;
   octets = c.read.ensures.octets;
-  exactly = exactly c.args.octets.now (λ i. omega (arith, c.type-inv.octets i)) c.read.result c.read.ensures.is;
+  exactly = exactly c.args.octets.now (λ i. omega (arith, c.type_inv.octets i)) c.read.result c.read.ensures.is;
 }

@@ -13,7 +13,7 @@ returns-then-not-is_text c =
     let p = c.args.self.now.place in
     let n = c.args.count in
     let e : p + n - p ≡ n = omega arith in
-    let t : is_text (part os p n) ≡ false = ap (λ k. is_text (part os p k)) (sym e) ∙ sym c.is-text.ensures.is ∙ c.if-not-is_text.true in
+    let t : is_text (part os p n) ≡ false = ap (λ k. is_text (part os p k)) (sym e) ∙ sym c.is_text.ensures.is ∙ c.if-not-is_text.true in
     record { octets = refl; moved = text_bad os p n (omega arith) t }
 
 pub returns : goal.returns
@@ -22,5 +22,5 @@ returns c =
     let p = c.args.self.now.place in
     let n = c.args.count in
     let e : p + n - p ≡ n = omega arith in
-    let t : is_text (part os p n) ≡ true = ap (λ k. is_text (part os p k)) (sym e) ∙ sym c.is-text.ensures.is ∙ c.if-not-is_text.false in
+    let t : is_text (part os p n) ≡ true = ap (λ k. is_text (part os p k)) (sym e) ∙ sym c.is_text.ensures.is ∙ c.if-not-is_text.false in
     record { octets = refl; moved = text-fits os p n (omega arith) t }

@@ -8,7 +8,7 @@ pub invariant_of-self : goal.invariant_of-self
 invariant_of-self c =
     let ok = c.args.self.now.ok in
     let is = part-more c.args.self.now.fill c.args.self.now.part c.from.result c.args.bit ok.0 ok.1 c.from.ensures in
-    ((omega arith, part_lt _ _ _ _ ok.1 is), tt)
+    record { ok = (omega arith, part_lt _ _ _ _ ok.1 is) }
 
 pub returns-then-self-lt7 : goal.returns-then-self-lt7
 returns-then-self-lt7 c =

@@ -4,4 +4,4 @@ use Rattle.line.specs.Sending.{Sends}
 use Rattle.line.proofs.sender.Sender.put_flags.Given as goal
 
 abbrev pub invariant-loop-i : goal.invariant-loop-i
-invariant-loop-i l = Sends l.initial.self l.initial.out l.self l.out (flags l.-i) × (l.self.left ≡ l.initial.self.left)
+invariant-loop-i l = Sends l.initial.self l.initial.out l.self l.out (flags l._i) × (l.self.left ≡ l.initial.self.left)
