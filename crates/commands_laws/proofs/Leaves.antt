@@ -118,8 +118,8 @@ module _ (os : List ℕ) (q : ℕ) where
   text_same (unsigned n) fits a = text-none _ (no_text (head-is (unsigned n) fits a 3))
   text_same (negative n) fits a = text-none _ (no_text (head-is (negative n) fits a 3))
   text_same (bytes bs) fits a = text-none _ (no_text (head-is (bytes bs) fits a 3))
-  text_same (text bs) (fits, is-text) a =
-      let b = text-exact.back os q bs (q + length (encoding (text bs))) (record { fits = fits; is-text = is-text }) (record { at = a; on = refl }) in
+  text_same (text bs) (fits, utf8) a =
+      let b = text-exact.back os q bs (q + length (encoding (text bs))) (record { fits = fits; utf8 = utf8 }) (record { at = a; on = refl }) in
       subst (λ x. Both (Spot os) (field x) (Some bs)) (sym b.1) b.2
   text_same (array ts) fits a = text-none _ (no_text (head-is (array ts) fits a 3))
   text_same (map es) fits a = text-none _ (no_text (head-is (map es) fits a 3))

@@ -1,5 +1,4 @@
 -- What is read with every head shortest and the keys ascending is the encoding of a tree within the limits.
-use denote.Slice.{shr_slice_at}
 use Rattle.std.proofs.Common.{◌≡◌, ℕ, zero, suc, ◌+◌, ◌-◌, ◌*◌, ◌/◌, ◌%◌, ◌^◌, ◌<◌, ◌≤◌, Bool, true, false, ◌&&◌, leb, List, [], ◌∷◌, ◌++◌, length, get_or, take, drop, Some, None, Ok, Err, Option, Result, sym, refl, ap, ◌∙◌, subst, ⊎_elim, append-nil, add-zero, pow-suc, arith, lit<, length-append, length-drop, length-take-le, get_or-drop, get_or-take}
 use Rattle.std.proofs.lemmas.List.{get_or_append_left, get_or-append-add, get_or_at}
 use Rattle.std.proofs.lemmas.Bool.Decides.{nat_tests, eqb_tells}
@@ -141,8 +140,8 @@ module _ (os : List ℕ) (octet : (i : ℕ) → get_or os i 0 < 256) where
             (order i (length xs));
       }
 
-  pub shr_slice_at : (p n : ℕ) → p + n ≤ length os → At os p (take n (drop p os)) × (length (take n (drop p os)) ≡ n)
-  shr_slice_at p n h =
+  pub at_slice : (p n : ℕ) → p + n ≤ length os → At os p (take n (drop p os)) × (length (take n (drop p os)) ≡ n)
+  at_slice p n h =
       let l : n ≤ length (drop p os) = omega (arith, length-drop p os) in
       let e = length-take-le n (drop p os) l in (
         record {
@@ -334,7 +333,7 @@ module _ (os : List ℕ) (octet : (i : ℕ) → get_or os i 0 < 256) where
 
       string : (t : Item) (m : ℕ) → h.major ≡ m → encoding t ≡ head_of m (length bs) ++ bs → total t ≡ 1 → ascending t ≡ true → (length bs < 2 ^ 64 → Within t d) → Tree d w v
       string t m major shape one flat within =
-          let cut = shr_slice_at next.place h.argument in-it in
+          let cut = at_slice next.place h.argument in-it in
           let sn : next.deterministic ≡ true = ap (λ x. x.deterministic) (sym e) ∙ s in
           let fit : length bs < 2 ^ 64 = omega (arith, cut.1, fitting sn) in
           let on : v.place ≡ next.place + length bs = omega (arith, cut.1, ap (λ x. x.place) e) in

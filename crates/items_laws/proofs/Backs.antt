@@ -71,11 +71,11 @@ mutual
       ∙ body_bytes (inside d os) os (head 2 (length bs)) (walk (p + length h) (left - 1) s) refl
       ∙ ap (λ x. after x (λ q. Ok (move_to (walk (p + length h) (left - 1) s) q))) (skip_fits os (p + length h) (length bs) r.within)
       ∙ moved _ _ _ _ s (omega arith) refl
-  item_back (text bs) os p d left s (fits, is-text) few up a =
+  item_back (text bs) os p d left s (fits, utf8) few up a =
       let h = head_of 3 (length bs) in
       let r = at_right os p h bs a in
       let l = length-append h bs in
-      let t : is_text (part os (p + length h) (length bs)) ≡ true = ap is_text (at_part os (p + length h) bs r) ∙ is-text in
+      let t : is_text (part os (p + length h) (length bs)) ≡ true = ap is_text (at_part os (p + length h) bs r) ∙ utf8 in
       begin d os p left s few 3 (length bs) _ (head-back os p 3 (length bs) fits (at_left os p h bs a))
       ∙ body-text (inside d os) os (head 3 (length bs)) (walk (p + length h) (left - 1) s) refl
       ∙ ap (λ x. after x (λ q. Ok (move_to (walk (p + length h) (left - 1) s) q))) (text-fits os (p + length h) (length bs) r.within t)

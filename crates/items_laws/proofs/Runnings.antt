@@ -1,5 +1,4 @@
 -- What is read at a place is what stands there, and the other way round.
-use denote.Slice.{shr_slice_at}
 use Rattle.std.proofs.Common.{◌≡◌, ℕ, ◌+◌, ◌-◌, ◌^◌, ◌<◌, ◌≤◌, Bool, true, false, cond, ◌&&◌, eqb, ltb, leb, List, [], ◌++◌, length, ℤ, pos, negsuc, Some, None, Ok, Err, Option, Result, sym, refl, ap, ◌∙◌, subst, arith, length-append}
 use Rattle.std.proofs.lemmas.Bool.{and_parts}
 use Rattle.std.proofs.lemmas.Bool.Decides.{nat_tests}
@@ -16,7 +15,7 @@ use Rattle.items_laws.specs.Laws.{Octets}
 use Rattle.items_laws.specs.Exact.{Spot, TextFits, HeadExact, KeyExact, UnsignedExact, NegativeExact, integer, Fits63, IntegerExact, BytesExact, TextExact, MapExact}
 use Rattle.items_laws.proofs.Written.{at_left, at_right, at_part, Reads, head-back}
 use Rattle.items_laws.proofs.Backs.{walk, item_back}
-use Rattle.items_laws.proofs.Accepted.{head-wrote, at_both, at-slice, item_sound}
+use Rattle.items_laws.proofs.Accepted.{head-wrote, at_both, at_slice, item_sound}
 use Rattle.items_laws.proofs.Unique.{major, argument, shaped, entries_in, head-reads}
 
 pub none-some : {X : Type 0} {x : X} → None ≡ Some x → ⊥
@@ -114,7 +113,7 @@ module _ (os : List ℕ) (octet : Octets os) where
       let on : b.got.1 + b.got.0 ≡ q = ap (λ x. x.1) c.1 in
       let room : b.got.1 + b.got.0 ≤ length os = grind (arith, nat_tests, c.0) in
       let h = argument-sound m p s.len s.start (b.first ∙ (λ i. Some (many i, start i))) in
-      let a = shr_slice_at os octet s.start s.len (omega arith) in
+      let a = at_slice os octet s.start s.len (omega arith) in
       record {
         runs = runs_join h.0 (record { at = a.0; on = omega (arith, a.1) });
         long = a.1;
@@ -200,7 +199,7 @@ text-sound os octet p s q is =
     let bs : List ℕ = part os s.start s.len in
     let l : length bs ≡ s.len = r.long in
     let t : is_text bs ≡ true = ap (λ x. is_text (part os x.0.start x.0.len)) (sym c.1) ∙ c.0 in
-    (bs, record { fits = omega (arith, l, r.fits); is-text = t }, subst (λ k. Runs os p (head_of 3 k ++ bs) q) (sym l) r.runs, record { there = r.there; long = sym l })
+    (bs, record { fits = omega (arith, l, r.fits); utf8 = t }, subst (λ k. Runs os p (head_of 3 k ++ bs) q) (sym l) r.runs, record { there = r.there; long = sym l })
 
 text-back : (os : List ℕ) (p : ℕ) (bs : List ℕ) (q : ℕ) → TextFits bs → Runs os p (encoding (text bs)) q → (s : Span) × (text_at os p ≡ Some (s, q)) × Spot os s bs
 unfolding encoding
@@ -208,7 +207,7 @@ text-back os p bs q good r =
     let b = string-back os 3 p bs q good.fits r in
     let s : Span = b.0 in
     let e : part os s.start s.len ≡ bs = ap (part os s.start) b.2.long ∙ at_part os s.start bs b.2.there in
-    (s, text-good os p s q (sym b.1) (ap is_text e ∙ good.is_text), b.2)
+    (s, text-good os p s q (sym b.1) (ap is_text e ∙ good.utf8), b.2)
 
 pub text-exact : TextExact
 text-exact = record { sound = text-sound; back = text-back }

@@ -96,7 +96,7 @@ unfolding encoding Within head_of
 head-reads os (unsigned n) d p fits a = head-back os p 0 n fits a
 head-reads os (negative n) d p fits a = head-back os p 1 n fits a
 head-reads os (bytes bs) d p fits a = head-back os p 2 (length bs) fits (at_left os p (head_of 2 (length bs)) bs a)
-head-reads os (text bs) d p (fits, is-text) a = head-back os p 3 (length bs) fits (at_left os p (head_of 3 (length bs)) bs a)
+head-reads os (text bs) d p (fits, utf8) a = head-back os p 3 (length bs) fits (at_left os p (head_of 3 (length bs)) bs a)
 head-reads os (array ts) d p (few, deep, inner) a = head-back os p 4 (array_size ts) (omega arith) (at_left os p (head_of 4 (array_size ts)) (items_encoding ts) a)
 head-reads os (map es) d p (few, deep, inner) a = head-back os p 5 (map_size es) (omega arith) (at_left os p (head_of 5 (map_size es)) (entries_encoding es) a)
 head-reads os simple_false d p fits a = short os p 7 20 (omega arith) a

@@ -27,7 +27,7 @@ pub record Spot (os : List ℕ) (s : Span) (bs : List ℕ) : Type 0 where
 -- a string of text
 pub record TextFits (bs : List ℕ) : Type 0 where
   pub fits : length bs < 2 ^ 64
-  pub is-text : is_text bs ≡ true
+  pub utf8 : is_text bs ≡ true
 
 -- the head of major type m is read exactly where it stands
 pub record HeadExact : Type 0 where

@@ -107,7 +107,7 @@ module _ (xs : List ℕ) where
     fit_item (unsigned m) p n d w a = ap (λ k. strings_fit k xs p) (one n) ∙ fit_head xs p 0 m n w (λ e. omega arith) (λ e. omega arith) a
     fit_item (negative m) p n d w a = ap (λ k. strings_fit k xs p) (one n) ∙ fit_head xs p 1 m n w (λ e. omega arith) (λ e. omega arith) a
     fit_item (bytes bs) p n d w a = ap (λ k. strings_fit k xs p) (one n) ∙ fit_bytes xs p bs n w a
-    fit_item (text bs) p n d w a = ap (λ k. strings_fit k xs p) (one n) ∙ fit_text xs p bs n (record { fits = w.0; is-text = w.1 }) a
+    fit_item (text bs) p n d w a = ap (λ k. strings_fit k xs p) (one n) ∙ fit_text xs p bs n (record { fits = w.0; utf8 = w.1 }) a
     fit_item (array ts) p n d (few, deep, inner) a =
         ap (λ k. strings_fit k xs p) (one-first (items_total ts) n)
         ∙ fit_head xs p 4 (array_size ts) (items_total ts + n) (omega arith) (λ e. omega arith) (λ e. omega arith) (at_left xs p (head_of 4 (array_size ts)) (items_encoding ts) a)
