@@ -1,5 +1,6 @@
 -- A journal in an image, from its store's facts to the image and its supply.
-use Rattle.std.proofs.Common.{◌≡◌, ℕ, Bool, true, false, List, Some, None, Option, sym, refl, ap, ◌∙◌, subst, Bor}
+use Rattle.std.proofs.Common.{◌≡◌, ℕ, Bool, true, false, List, Some, None, Option, sym, refl, ap, ◌∙◌, subst}
+use denote.MutBor.{MutBor}
 use Rattle.marks.specs.declared.mark.CutLeaves.{CutLeaves}
 use Rattle.marks.specs.Device.{device_of}
 use Rattle.marks.specs.Octets.{cells_in, ImageTouched}
@@ -24,7 +25,7 @@ supply-at b b' n n' v v' l l' floor e f g h =
     ap (λ (x : Bool). supply_of x n v l floor) e ∙ ap (λ (x : ℕ). supply_of b' x v l floor) f ∙ ap (λ (x : CutLeaves). supply_of b' n' x l floor) g ∙ ap (λ (x : Option ℕ). supply_of b' n' v' x floor) h
 
 -- what is kept of a journal by what it holds
-module _ {J : Type 0} (img : J → Bor (List ℕ)) (on : J → Bool) (charge : J → ℕ) (leaves : J → CutLeaves) (last : J → Option ℕ) (floor : Option ℕ) where
+module _ {J : Type 0} (img : J → MutBor (List ℕ)) (on : J → Bool) (charge : J → ℕ) (leaves : J → CutLeaves) (last : J → Option ℕ) (floor : Option ℕ) where
   abbrev Touch : J → J → Type 0
   Touch j k = JournalTouches (ImageTouched (img j) (leaves j) (img k) (leaves k)) (cells_in (img j).now) (last j) (last k)
 

@@ -25,6 +25,7 @@ mod unreadable;
 
 use crate::failure::Failure;
 use std::env;
+use std::process::ExitCode;
 
 // One word of the command line, or a failure that says what is wanted.
 fn next_word(words: &mut env::Args, wanted: &'static str) -> Result<String, Failure> {
@@ -90,10 +91,12 @@ fn run(rt: &HostRuntime) -> Result<(), Failure> {
     }
 }
 
-fn main(rt: HostRuntime) -> Result<(), Failure> {
-    let result = run(&rt);
-    if let Err(failure) = &result {
-        let _ = eprintln!(rt; "owac: {failure}");
+fn main(rt: HostRuntime) -> ExitCode {
+    match run(&rt) {
+        Ok(()) => ExitCode::SUCCESS,
+        Err(failure) => {
+            let _ = eprintln!(rt; "owac: {failure}");
+            ExitCode::FAILURE
+        }
     }
-    result
 }
