@@ -28,7 +28,7 @@ fn listen_by<V: Verifier>(
     work: &mut [u8],
     answer: &mut OwacAnswer,
 )
-    ensures { Heard (inputs_by known good verifier.now burst.now (listening_in listening.now) catalog.now (length work.old)) image.old supply.old answer.new image.new supply.new work.new }
+    ensures { Heard (inputs_by V.known V.good verifier.now burst.now (listening_in listening.now) catalog.now (length work.old)) image.old supply.old answer.new image.new supply.new work.new }
 {
     let mut kept = supply_in(supply);
     let heard = listen_in(
