@@ -1,28 +1,33 @@
 # What people run. `make test` is the gate.
 
-KIT := $(dir $(shell rt doc))..
+.PHONY: program run test bench peers soak host target/host/host
 
-.PHONY: run test bench peers soak host target/host/host
+# The program, and the two libraries for C and Rust.
+OWAC := crates/owac/out/owac
+OWAC_C := crates/owac_c/out
+TIMINGS := crates/timings/out
 
 # How many calls a soak makes.
 N ?= 100000
 
+program:
+	cd crates/owac && rt run > /dev/null
+
 run:
-	rt check owac
-	target/bin/owac
+	cd crates/owac && rt run
 
 test:
 	bash .ci/run
 
 bench:
-	rt staticlib owac_c
-	rt staticlib timings
+	cd $(OWAC_C)/.. && rt lib
+	cd $(TIMINGS)/.. && rt lib
 	mkdir -p target/bench
 	for work in line listen; do \
-	  rustc -O --edition 2024 -o target/bench/$$work bench/$$work.rs -L target/staticlib -L $(KIT)/lib -l static=owac_c -l static=rattle_c || exit 1; \
+	  rustc -O --edition 2024 -o target/bench/$$work bench/$$work.rs -L $(OWAC_C) -l static=owac_c || exit 1; \
 	done
 	for work in sha256 message store; do \
-	  rustc -O --edition 2024 -o target/bench/$$work bench/$$work.rs -L target/staticlib -L $(KIT)/lib -l static=timings -l static=rattle_c || exit 1; \
+	  rustc -O --edition 2024 -o target/bench/$$work bench/$$work.rs -L $(TIMINGS) -l static=timings || exit 1; \
 	done
 	target/bench/line
 	target/bench/sha256
@@ -30,18 +35,16 @@ bench:
 	target/bench/store
 	target/bench/listen
 
-peers:
-	rt check owac
-	sh tests/peers.sh target/bin/owac
+peers: program
+	sh tests/peers.sh $(OWAC)
 
-soak:
-	rt check owac
-	python3 tests/soak.py target/bin/owac --calls $(N)
+soak: program
+	python3 tests/soak.py $(OWAC) --calls $(N)
 
 host: target/host/host
 	target/host/host
 
 target/host/host:
-	rt staticlib owac_c
+	cd $(OWAC_C)/.. && rt lib
 	mkdir -p target/host
-	cc -std=c11 -Wall -Wextra -Werror -O2 -g -Iinclude -o target/host/host examples/host.c -L target/staticlib -L $(KIT)/lib -lowac_c -lrattle_c
+	cc -std=c11 -Wall -Wextra -Werror -O2 -g -Iinclude -o target/host/host examples/host.c -L $(OWAC_C) -lowac_c

@@ -1,7 +1,7 @@
 /*
  * The receiver and the burst writer for hosts in C11 and C++.
  *
- * Link with libowac_c.a (`rt staticlib owac_c` writes it to target/staticlib) and with librattle_c.a of the Rattle kit.
+ * Link with libowac_c.a (`rt lib` in crates/owac_c writes it to crates/owac_c/out).
  *
  * Memory. The host owns all of it and lends it for the time of a call; the library keeps nothing, allocates nothing and has no
  * state of its own. Each buffer is a pointer and then its length, and nothing outside it is read or written. The pointer of a

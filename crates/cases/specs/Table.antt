@@ -1,6 +1,6 @@
 -- The worked cases: what each says, and the table.
 use Rattle.std.specs.Prelude.{◌≡◌, ℕ, ◌*◌, Bool, true, false, List, [], ◌∷◌, map, length, replicate, Some, None, Ok, Err, codes, Option, Result, slice_set}
-use Rattle.std.specs.List.{AllByRecursion as All}
+use Rattle.std.specs.List.{AllByRecursion}
 use Rattle.answers.specs.declared.refusal.Refusal.TheVariants.{Framing, FcsFail, CborParse}
 use Rattle.answers.specs.Questions.{first}
 use Rattle.items.specs.Reading.{read_of}
@@ -111,4 +111,4 @@ table =
 
 -- all of them
 abbrev pub CasesHold : Type 0
-CasesHold = All Holds table
+CasesHold = AllByRecursion Holds table

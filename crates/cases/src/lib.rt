@@ -1,5 +1,6 @@
 // The worked cases of the rules, in one table.
 #![tactic(auto)]
+
 ghost use Rattle.std.specs.Prelude.{◌≡◌, length};
 ghost use Rattle.cases.specs.Table.{table, CasesHold};
 

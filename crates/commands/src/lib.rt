@@ -1,5 +1,6 @@
 // Commands: which types there are, what arguments each has, and which may be released.
 #![tactic(auto)]
+
 mod arguments;
 mod release;
 mod requests;

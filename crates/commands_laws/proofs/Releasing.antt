@@ -7,7 +7,6 @@ use Rattle.commands.specs.declared.types.Track.TheVariants.{Number, Octets}
 use Rattle.commands.specs.declared.types.Request.{Request}
 use Rattle.commands.specs.declared.types.Request.TheVariants.{Heartbeat, Queue, Suggest, Remove, State, Seek, Rate, Next, Previous, Text, Reserved}
 use Rattle.commands.specs.declared.types.Command.{Command}
-use Rattle.commands.specs.declared.types.Command.TheVariants as commands
 use Rattle.commands.specs.Release.{may_release, allowed, part_of, command_text}
 use Rattle.commands_laws.specs.Laws.{HandsOut}
 

@@ -1,5 +1,5 @@
 -- A store under a floor, from the floor's facts to the store's.
-use Rattle.std.proofs.Common.{◌≡◌, ℕ, Bool, true, false, Some, None, Option, sym, refl, ap, ◌∙◌, subst}
+use Rattle.std.proofs.Common.{◌≡◌, ℕ, Bool, true, false, Some, Option, sym, ap, ◌∙◌, subst}
 use Rattle.marks.specs.State.{State}
 use Rattle.journal.specs.Floors.{on_floor, FloorMoves}
 use Rattle.judging.specs.declared.answer.Answer.{Answer}

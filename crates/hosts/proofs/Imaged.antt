@@ -1,5 +1,5 @@
 -- A journal in an image, from its store's facts to the image and its supply.
-use Rattle.std.proofs.Common.{◌≡◌, ℕ, Bool, true, false, List, Some, None, Option, sym, refl, ap, ◌∙◌, subst}
+use Rattle.std.proofs.Common.{◌≡◌, ℕ, Bool, true, false, List, Some, None, Option, refl, ap, ◌∙◌, subst}
 use denote.MutBor.{MutBor}
 use Rattle.marks.specs.declared.mark.CutLeaves.{CutLeaves}
 use Rattle.marks.specs.Device.{device_of}
@@ -12,10 +12,9 @@ use Rattle.judging.specs.declared.answer.Verdict.{Verdict}
 use Rattle.judging.specs.declared.answer.Verdict.TheVariants.{Quiet, Duplicate, Refused, Released}
 use Rattle.judging.specs.Inputs.{Inputs}
 use Rattle.judging.specs.Effects.{is_cut, whether, StoreMoves}
-use Rattle.receiver.specs.History.{ListenGoesOn, SwitchGoesOn}
 use Rattle.receiver.proofs.Law.{switch-goes-on}
 use Rattle.hosts.specs.declared.supply.Supply.{Supply}
-use Rattle.hosts.specs.Images.{floor_on, image_state, Wrote, Untouched, ImageLeft, ListenedIn, switched_on, SwitchingGoesOn}
+use Rattle.hosts.specs.Images.{floor_on, Wrote, Untouched, ImageLeft, ListenedIn, SwitchingGoesOn}
 
 abbrev supply_of : Bool → ℕ → CutLeaves → Option ℕ → Option ℕ → Supply
 supply_of on charge leaves last floor = record { on = on; charge = charge; leaves = leaves; last = last; floor = floor }

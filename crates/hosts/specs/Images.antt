@@ -1,5 +1,5 @@
 -- A journal in a lent image, under a floor if there is one.
-use Rattle.std.specs.Prelude.{◌≡◌, ℕ, Bool, true, List, Some, None, Option}
+use Rattle.std.specs.Prelude.{◌≡◌, ℕ, true, List, Some, None, Option}
 use Rattle.marks.specs.Device.{device_of}
 use Rattle.marks.specs.Octets.{cells_in, OneCell, AfterWrite}
 use Rattle.marks.specs.State.{State}

@@ -1,5 +1,6 @@
 // CBOR items as the protocol restricts them: reading a whole message, looking up a key, reading a field at its place.
 #![tactic(auto)]
+
 mod compare;
 mod fields;
 mod item;

@@ -1,16 +1,16 @@
 -- What a write of the chosen cell does to the marks.
-use Rattle.std.proofs.Common.{◌≡◌, ℕ, ◌+◌, ◌<◌, Bool, true, false, cond, List, length, set, Some, None, Option, sym, refl, ap, ◌∙◌, subst, arith}
+use Rattle.std.proofs.Common.{◌≡◌, ℕ, ◌<◌, Bool, true, false, cond, List, length, set, Some, None, Option, sym, refl, ap, ◌∙◌, arith}
 use Rattle.std.specs.Option.{option_map}
 use Rattle.marks.specs.declared.mark.Pair.{Pair}
 use Rattle.marks.specs.declared.mark.Mark.{Mark}
 use Rattle.marks.specs.declared.mark.Cell.{Cell}
-use Rattle.marks.specs.declared.mark.Cell.TheVariants.{Blank, Torn, Held}
+use Rattle.marks.specs.declared.mark.Cell.TheVariants.{Torn, Held}
 use Rattle.marks.specs.declared.mark.CutLeaves.{CutLeaves}
 use Rattle.marks.specs.declared.mark.CutLeaves.TheVariants.{Old, New, Torn as Tears}
 use Rattle.marks.specs.declared.mark.Raised.TheVariants.{Cut, Done}
 use Rattle.marks.specs.Positions.{above}
 use Rattle.marks.specs.Device.{Device, cells_cut, WriteOutside, WriteCut, WriteDone}
-use Rattle.marks.specs.State.{State, RaiseFull, Begun, CutShort, Completed, Raises}
+use Rattle.marks.specs.State.{RaiseFull, Begun, CutShort, Completed, Raises}
 use Rattle.journal.specs.Journals.{record_of, overtakes, source_in, mark_in, is_free, chosen, state_in, CutIn, WrittenIn}
 use Rattle.journal.proofs.Sources.{change_keeps, change_raises, above-overtakes, held-pair, never-torn}
 use Rattle.journal.proofs.Choosing.{chosen-inside, chosen-free, chosen_none, chosen-room}

@@ -1,5 +1,5 @@
 -- The cell that gives a pair's mark, by what it is among the others.
-use Rattle.std.proofs.Common.{◌≡◌, ℕ, zero, suc, ◌+◌, ◌<◌, ◌≤◌, Bool, true, false, cond, not, ◌&&◌, ◌||◌, eqb, ltb, ◌≢◌, ◌⊎◌, List, length, get_or, set, Some, None, Decides, Option, sym, refl, ap, ◌∙◌, subst, inl, inr, ⊎_elim, add-one, arith}
+use Rattle.std.proofs.Common.{◌≡◌, ℕ, zero, suc, ◌+◌, ◌<◌, true, false, not, ◌&&◌, eqb, ◌≢◌, ◌⊎◌, List, length, set, Some, None, Option, sym, refl, ap, ◌∙◌, subst, inl, inr, ⊎_elim, add-one, arith}
 use Rattle.std.specs.Option.{option_map}
 use Rattle.std.proofs.lemmas.Bool.Decides.{nat_tests, not_from_Decides}
 use Rattle.std.proofs.lemmas.Bool.{cases_eq, cases_order, cases_Bool, and_parts, and_cases, true≢false, eq-eqb, both_ways, cond-true, cond-false, eqb-true, not-true, or_from, or_left, or_right}
@@ -14,7 +14,7 @@ use Rattle.marks.specs.Positions.{before, above, same_pair}
 use Rattle.marks.specs.Device.{cell_at}
 use Rattle.marks.proofs.Pairs.{pair_decides}
 use Rattle.journal.specs.declared.source.Source.{Source}
-use Rattle.journal.specs.Journals.{record_of, Highest, IsSource, overtakes, supersedes, passing, source_to, source_in, mark_in, comes_from, free_cell, is_free, any_free}
+use Rattle.journal.specs.Journals.{record_of, Highest, IsSource, overtakes, supersedes, passing, source_to, source_in, comes_from, free_cell, is_free, any_free}
 
 -- the order of positions
 

@@ -1,5 +1,5 @@
 -- A store's meaning above a floor.
-use Rattle.std.specs.Prelude.{◌≡◌, ℕ, true, false, cond, ◌⊎◌, replicate, Some, None, Option}
+use Rattle.std.specs.Prelude.{◌≡◌, ℕ, false, cond, ◌⊎◌, replicate, Some, None, Option}
 use Rattle.marks.specs.declared.mark.Pair.{Pair}
 use Rattle.marks.specs.declared.mark.Mark.{Mark}
 use Rattle.marks.specs.Positions.{before}

@@ -1,11 +1,11 @@
 -- A raise over an image, from the store's facts to the image's.
-use Rattle.std.proofs.Common.{◌≡◌, ℕ, Bool, true, List, Option, sym, refl, ap, ◌∙◌, subst, MutBor}
+use Rattle.std.proofs.Common.{◌≡◌, ℕ, Bool, true, List, Option, refl, ap, ◌∙◌, subst, MutBor}
 use Rattle.marks.specs.declared.mark.Pair.{Pair}
 use Rattle.marks.specs.declared.mark.Mark.{Mark}
 use Rattle.marks.specs.declared.mark.CutLeaves.{CutLeaves}
 use Rattle.marks.specs.declared.mark.Raised.{Raised}
 use Rattle.marks.specs.declared.mark.Raised.TheVariants.{Off, Low, Full, Cut, Done}
-use Rattle.marks.specs.State.{State, Raises, RaiseMoves}
+use Rattle.marks.specs.State.{Raises, RaiseMoves}
 use Rattle.marks.specs.Octets.{cells_in, ImageTouched}
 use Rattle.journal.specs.Floors.{FloorMoves}
 use Rattle.journal.specs.Journals.{JournalTouches}

@@ -1,5 +1,5 @@
 -- The law of runs, by induction.
-use Rattle.std.proofs.Common.{◌≡◌, Bool, true, false, cond, ◌&&◌, eqb, ◌⊎◌, Some, None, Option, sym, refl, ap, ◌∙◌, subst, inl, inr, ⊎_elim, arith}
+use Rattle.std.proofs.Common.{◌≡◌, Bool, true, false, cond, ◌&&◌, eqb, Some, None, Option, sym, refl, ap, ◌∙◌, subst, inl, inr, ⊎_elim, arith}
 use Rattle.std.proofs.lemmas.Bool.{cases_Bool, and_parts, cond-true, cond-false, true≢false, eq-eqb, ne_eqb}
 use Rattle.std.proofs.lemmas.Bool.Decides.{nat_tests, not_from_Decides}
 use Rattle.marks.specs.declared.mark.Pair.{Pair}
@@ -8,9 +8,9 @@ use Rattle.marks.specs.declared.mark.Mark.{Mark}
 use Rattle.marks.specs.declared.mark.Raised.{Raised}
 use Rattle.marks.specs.declared.mark.Raised.TheVariants.{Off, Low, Full, Cut, Done}
 use Rattle.marks.specs.Positions.{before, above, same_pair}
-use Rattle.marks.specs.State.{State, Others, CutShort, Completed, Raises}
+use Rattle.marks.specs.State.{State, Others, CutShort, Raises}
 use Rattle.marks.proofs.Pairs.{pair_decides}
-use Rattle.journal_laws.specs.Runs.{Run, begun, raised, switched, wrote, last_mark, NotLower, Spares, Lawful, answer_of, OneAnswer}
+use Rattle.journal_laws.specs.Runs.{Run, begun, raised, switched, wrote, last_mark, NotLower, Spares, Lawful, answer_of}
 
 before_trans : (a b c : Position) → before a b ≡ true → before b c ≡ true → before a c ≡ true
 before_trans a b c h k = grind (arith, nat_tests)

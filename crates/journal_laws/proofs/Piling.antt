@@ -1,5 +1,5 @@
 -- A pile of floors acts as its highest.
-use Rattle.std.proofs.Common.{◌≡◌, ℕ, ◌+◌, ◌<◌, ◌≤◌, max, Bool, true, false, cond, eqb, ◌⊎◌, List, [], ◌∷◌, ◌++◌, length, get_or, take, Some, None, Option, sym, refl, ap, ◌∙◌, subst, inl, inr, ⊎_elim, arith, MatchOption}
+use Rattle.std.proofs.Common.{◌≡◌, ℕ, ◌+◌, ◌<◌, ◌≤◌, max, Bool, true, false, cond, eqb, List, [], ◌∷◌, ◌++◌, length, get_or, take, Some, None, Option, sym, refl, ap, ◌∙◌, subst, ⊎_elim, arith, MatchOption}
 use Rattle.std.proofs.lemmas.Bool.{cases_lt, cond-true, cond-false}
 use Rattle.std.proofs.lemmas.Bool.Decides.{nat_tests}
 use Rattle.std.proofs.lemmas.List.{take_more, take_all}
@@ -10,7 +10,6 @@ use Rattle.marks.specs.declared.mark.Raised.TheVariants.{Off, Low, Full, Cut, Do
 use Rattle.marks.specs.Positions.{before, above}
 use Rattle.marks.specs.State.{State}
 use Rattle.journal.specs.Floors.{base, floored, on_floor}
-use Rattle.journal_laws.specs.Runs.{answer_of}
 use Rattle.journal_laws.specs.Piles.{pile, Alike, ActsAs}
 
 is-under : (f : ℕ) (m : Mark) → m.position.epoch < f → before m.position (base f).position ≡ true

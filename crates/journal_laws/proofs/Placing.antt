@@ -1,8 +1,8 @@
 -- Sources and free cells.
-use Rattle.std.proofs.Common.{◌≡◌, ℕ, zero, suc, ◌+◌, ◌-◌, ◌<◌, ◌≤◌, Bool, true, false, cond, not, eqb, ◌⊎◌, List, [], ◌∷◌, ◌++◌, length, set, IfSome, Some, None, Decides, Option, sym, refl, ap, ◌∙◌, subst, inl, inr, ⊎_elim, arith}
+use Rattle.std.proofs.Common.{◌≡◌, ℕ, zero, suc, ◌+◌, ◌-◌, ◌<◌, ◌≤◌, Bool, true, false, not, List, ◌++◌, length, IfSome, Some, None, Decides, Option, sym, refl, ap, ◌∙◌, subst, inl, inr, ⊎_elim, arith}
 use Rattle.std.specs.List.{range_with_len}
 use Rattle.std.specs.Option.{option_map}
-use Rattle.std.proofs.lemmas.Bool.{cases_Bool, cases_lt, eqb-true, eqb-false, ne_eqb, not_from_false, or_cases, true≢false}
+use Rattle.std.proofs.lemmas.Bool.{cases_Bool, cases_lt, eqb-false, ne_eqb, not_from_false, or_cases, true≢false}
 use Rattle.marks.specs.declared.mark.Pair.{Pair}
 use Rattle.marks.specs.declared.mark.Cell.{Cell}
 use Rattle.marks.specs.declared.mark.Cell.TheVariants.{Blank, Torn, Held}
@@ -11,7 +11,7 @@ use Rattle.journal.specs.declared.source.Source.{Source}
 use Rattle.journal.specs.Journals.{IsSource, record_of, source_in, mark_in, comes_from, free_cell, is_free, any_free, first_free, start_after, chosen}
 use Rattle.journal.proofs.Sources.{is_source, unique, free-gives, change_keeps, never-torn, any_some}
 use Rattle.journal.proofs.Choosing.{first-here, first-later, first-none, first-first, first_second, within, none_free, chosen-inside, chosen-free, chosen-nowhere}
-use Rattle.journal_laws.specs.Places.{ComesBefore, FirstAt, FirstFree, Expendable, FreeCell, SourceLaw, FreeLaw}
+use Rattle.journal_laws.specs.Places.{ComesBefore, FirstFree, Expendable, FreeCell, SourceLaw, FreeLaw}
 
 pub source_law : SourceLaw
 source_law cs p o h = unique cs p (length cs) o _ h (is_source cs p (length cs))

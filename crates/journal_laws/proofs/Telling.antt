@@ -1,5 +1,5 @@
 -- A run, call by call.
-use Rattle.std.proofs.Common.{◌≡◌, ℕ, ◌+◌, ◌<◌, ◌≤◌, min, List, [], ◌∷◌, ◌++◌, length, get_or, take, drop, set, sym, refl, ap, ◌∙◌, subst, arith}
+use Rattle.std.proofs.Common.{◌≡◌, ℕ, ◌+◌, ◌<◌, min, List, [], ◌∷◌, ◌++◌, length, get_or, take, drop, set, sym, refl, ap, ◌∙◌, subst, arith}
 use Rattle.std.proofs.lemmas.List.{take_more, take_more_set, drop-drop, drop-set-lt}
 use Rattle.marks.specs.declared.mark.Pair.{Pair}
 use Rattle.marks.specs.declared.mark.Mark.{Mark}
@@ -9,8 +9,8 @@ use Rattle.journal_laws.specs.declared.call.Call.{Call}
 use Rattle.journal_laws.specs.declared.call.Call.TheVariants.{Raise, SwitchOn}
 use Rattle.journal_laws.specs.declared.call.Reply.{Reply}
 use Rattle.journal_laws.specs.declared.call.Reply.TheVariants.{Answered, On}
-use Rattle.journal_laws.specs.Runs.{Run, begun, raised, switched, NotLower, Spares, Lawful}
-use Rattle.journal_laws.specs.Calls.{Spared, RaiseDone, SwitchDone, Carries, Tells, nothing, raise, switch, LawfulRun, Ran}
+use Rattle.journal_laws.specs.Runs.{Run, begun, raised, switched, NotLower, Spares}
+use Rattle.journal_laws.specs.Calls.{Spared, RaiseDone, SwitchDone, Carries, Tells, nothing, raise, switch, Ran}
 use Rattle.journal_laws.proofs.Marks.{law}
 
 spared-push : (q : Pair) (cs : List Call) (c : Call) → Spared q (cs ++ (c ∷ [])) → Spared q cs × Spared q (c ∷ [])

@@ -1,5 +1,5 @@
 -- Which cell a journal writes next, and why no cut there loses a mark.
-use Rattle.std.specs.Prelude.{◌≡◌, ℕ, ◌<◌, ◌≤◌, Bool, true, false, ◌⊎◌, List, length, Some, None, Decides, Option, ◌≢◌, slice_set}
+use Rattle.std.specs.Prelude.{◌≡◌, ℕ, ◌<◌, ◌≤◌, true, false, ◌⊎◌, List, length, Some, None, Decides, Option, ◌≢◌, slice_set}
 use Rattle.marks.specs.declared.mark.Pair.{Pair}
 use Rattle.marks.specs.declared.mark.Cell.{Cell}
 use Rattle.marks.specs.declared.mark.Cell.TheVariants.{Torn}

@@ -1,5 +1,6 @@
 // Laws of stores, floors and journals, on the calls that carry them out.
 #![tactic(auto)]
+
 pub mod call;
 pub mod floors;
 pub mod images;

@@ -1,7 +1,7 @@
 -- A burst's questions, by what the line heard.
-use Rattle.std.proofs.Common.{◌≡◌, ℕ, ◌+◌, ◌-◌, ◌≤◌, Bool, true, false, cond, leb, List, [], ◌++◌, length, take, drop, replicate, Ok, Err, Option, Result, sym, refl, ap, ◌∙◌, subst, arith, length-append}
+use Rattle.std.proofs.Common.{◌≡◌, ℕ, ◌-◌, ◌≤◌, Bool, true, false, cond, leb, List, [], length, take, drop, replicate, Ok, Err, Option, Result, sym, refl, ap, ◌∙◌, subst, arith, length-append}
 use lib.Seq.{take-append-le}
-use Rattle.std.proofs.lemmas.List.{length-take-le, take-take}
+use Rattle.std.proofs.lemmas.List.{length-take-le}
 use borrow.Rule.Slice.PartMut.{put_mid}
 use Rattle.answers.specs.declared.refusal.Refusal.{Refusal}
 use Rattle.answers.specs.declared.refusal.Refusal.TheVariants.{WorkTooShort, OutOfBounds}
@@ -10,7 +10,7 @@ use Rattle.line.specs.declared.heard.Heard.{Heard}
 use Rattle.line.specs.declared.heard.Hearing.{Hearing}
 use Rattle.line.specs.declared.heard.Hearing.TheVariants.{Quiet, Refused, Frame}
 use Rattle.line.specs.Bits.{bits_in}
-use Rattle.line.specs.Hearing.{Outcome, admission, in_bounds, work_octets, hears, hears_line, laid, line_questions, Fronts}
+use Rattle.line.specs.Hearing.{Outcome, admission, in_bounds, work_octets, hears, hears_line, laid, line_questions}
 use Rattle.line.proofs.Answering.{admitted, agrees, agrees_else, laid-front}
 use Rattle.marks.specs.State.{State}
 use Rattle.judging.specs.declared.answer.Answer.{Answer}
@@ -20,7 +20,7 @@ use Rattle.judging.specs.Inputs.{Inputs}
 use Rattle.judging.specs.Frames.{message_in, message_heard}
 use Rattle.judging.specs.Questions.{questions, refused, quiet, unheard_as}
 use Rattle.judging.specs.Stages.{message_questions}
-use Rattle.judging.specs.Effects.{offered, is_cut, Leaves, StoreMoves, left_at}
+use Rattle.judging.specs.Effects.{offered, Leaves, StoreMoves, left_at}
 use Rattle.judging.proofs.Line.{Says, line_says}
 use Rattle.judging.proofs.Reading.{refused-leaves, refused_moves}
 

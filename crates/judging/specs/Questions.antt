@@ -1,5 +1,5 @@
 -- The questions in their order; the first no ends the judging.
-use Rattle.std.specs.Prelude.{ℕ, Bool, true, false, not, List, length, nat_le, nat_lt}
+use Rattle.std.specs.Prelude.{ℕ, not, length, nat_le, nat_lt}
 use Rattle.answers.specs.declared.refusal.Refusal.{Refusal}
 use Rattle.answers.specs.declared.refusal.Refusal.TheVariants.{WorkTooShort, OutOfBounds, StoreOff, CborParse, Indefinite, NotDeterministic, Schema, ProfileMismatch, SizeLimit, ContextMismatch, KidUnknown, SignatureLength, AuthFail, Replay, Expired, ExpTooFar, UnknownCommand, BadArguments, AllowlistDeny, DuoPolicyUnknown, NoRoom, NotRaised}
 use Rattle.answers.specs.Questions.{Questions, otherwise, ◌⨟◌, ask, found}
@@ -16,7 +16,6 @@ use Rattle.commands.specs.Octets.{request_at}
 use Rattle.commands.specs.Release.{allowed}
 use Rattle.marks.specs.Positions.{above}
 use Rattle.marks.specs.State.{State}
-use Rattle.judging.specs.declared.answer.Verdict.{Verdict}
 use Rattle.judging.specs.declared.answer.Verdict.TheVariants.{Quiet, Duplicate, Refused, Released}
 use Rattle.judging.specs.declared.answer.Answer.{Answer}
 use Rattle.judging.specs.declared.answer.Release.{Release}

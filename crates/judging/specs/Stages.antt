@@ -1,5 +1,5 @@
 -- The same questions, cut where the functions that ask them are cut: each stage with all that follows it.
-use Rattle.std.specs.Prelude.{ℕ, Bool, not, List, length, nat_lt}
+use Rattle.std.specs.Prelude.{ℕ, Bool, not, List, nat_lt}
 use Rattle.answers.specs.declared.refusal.Refusal.TheVariants.{CborParse, Indefinite, NotDeterministic, Schema, ProfileMismatch, SizeLimit, ContextMismatch, KidUnknown, SignatureLength, AuthFail, Replay, Expired, ExpTooFar, UnknownCommand, BadArguments, AllowlistDeny, DuoPolicyUnknown, NoRoom, NotRaised}
 use Rattle.answers.specs.Questions.{Questions, otherwise, ◌⨟◌, ask, found}
 use Rattle.message.specs.declared.types.View.{View}

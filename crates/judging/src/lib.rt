@@ -1,5 +1,6 @@
 // Judging a burst: every question in its order, and the one write that a release makes.
 #![tactic(auto)]
+
 pub mod answer;
 mod bursts;
 mod stages;

@@ -1,22 +1,21 @@
 -- The questions of the line, answered one after another.
-use Rattle.std.proofs.Common.{◌≡◌, ℕ, zero, suc, ◌+◌, ◌-◌, ◌*◌, ◌%◌, ◌<◌, ◌≤◌, Bool, true, false, cond, ◌&&◌, eqb, ltb, leb, List, [], ◌∷◌, ◌++◌, length, take, drop, replicate, Some, None, Ok, Err, Option, Result, sym, refl, ap, ◌∙◌, subst, append-nil, arith}
+use Rattle.std.proofs.Common.{◌≡◌, ℕ, zero, suc, ◌+◌, ◌-◌, ◌*◌, ◌%◌, ◌<◌, ◌≤◌, Bool, true, false, cond, eqb, leb, List, [], ◌++◌, length, take, drop, replicate, Some, None, Ok, Err, Option, Result, sym, refl, ap, ◌∙◌, subst, append-nil, arith}
 use Rattle.std.specs.Option.{option_map}
-use Rattle.std.proofs.lemmas.List.{drop-drop, drop_all, length-drop, length-take-le, take-take}
-use Rattle.std.proofs.lemmas.Bool.{cond-true, cond-false, lt-ltb, le-ltb, eq-eqb, ne_eqb, lt-leb, le-leb, and_parts, leb-true}
+use Rattle.std.proofs.lemmas.List.{drop-drop, drop_all, length-drop, length-take-le}
+use Rattle.std.proofs.lemmas.Bool.{cond-true, cond-false, lt-ltb, le-ltb, eq-eqb, ne_eqb, and_parts, leb-true}
 use borrow.Rule.Slice.PartMut.{put_mid, post_of}
 use Rattle.answers.specs.Questions.{Questions, ◌⨟◌, ask, found, first}
 use Rattle.answers.specs.declared.refusal.Refusal.{Refusal}
 use Rattle.answers.specs.declared.refusal.Refusal.TheVariants.{WorkTooShort, OutOfBounds, BurstTooLong, Framing, OctetAlign, FcsFail}
 use Rattle.line.specs.Bits.{bits_in, octets_in}
-use Rattle.line.specs.Fcs.{register, residue}
-use Rattle.line.specs.Flags.{flag, first_flag, past_flags, behind_opening, within, body_start, closing, between}
+use Rattle.line.specs.Flags.{first_flag, past_flags, behind_opening, within, body_start, closing, between}
 use Rattle.line.specs.declared.heard.Heard.{Heard}
 use Rattle.line.specs.declared.heard.Hearing.{Hearing}
 use Rattle.line.specs.declared.heard.Hearing.TheVariants.{Quiet, Refused, Frame}
 use Rattle.line.specs.Hearing.{admission, in_bounds, work_octets, hears, laid, line_questions, in_time, longest_body, checked, Fronts, Outcome, hears_line, refused_at, quiet_at, frame_at}
 use Rattle.line.specs.Scanning.{Begun, Closed, Right, Packed}
 use Rattle.line.specs.Stuffing.{unstuffed}
-use Rattle.line.proofs.Places.{not_before, flag-inside, one-more-flag}
+use Rattle.line.proofs.Places.{flag-inside, one-more-flag}
 
 pub mapped_none : (f : ℕ → ℕ) (o : Option ℕ) → None ≡ option_map f o → o ≡ None
 mapped_none f None e = refl

@@ -1,27 +1,26 @@
 -- The way through a body.
-use Rattle.std.proofs.Common.{◌≡◌, ℕ, zero, suc, ◌+◌, ◌-◌, ◌*◌, ◌%◌, ◌<◌, ◌≤◌, Bool, true, false, cond, ◌&&◌, ◌||◌, eqb, leb, ◌⊎◌, List, [], ◌∷◌, ◌++◌, length, take, drop, Some, None, Option, sym, refl, ap, ◌∙◌, subst, inl, inr, append-nil, arith}
+use Rattle.std.proofs.Common.{◌≡◌, ℕ, zero, suc, ◌+◌, ◌-◌, ◌*◌, ◌%◌, ◌<◌, ◌≤◌, Bool, true, false, eqb, List, [], ◌∷◌, ◌++◌, length, take, drop, Some, None, Option, sym, refl, ap, ◌∙◌, subst, inl, inr, append-nil, arith}
 use Rattle.std.specs.List.{AllByRecursion as All}
 use Rattle.std.proofs.lemmas.List.{length-append, length-take-le, take_at}
 use Rattle.std.proofs.ByRecursion.{All-take}
 use Rattle.std.proofs.lemmas.Bool.{cond-true, cond-false, cases_Bool, eqb-true, eqb-false, le-leb, lt-leb, or_left, or_right, or_from}
 use Rattle.line.specs.declared.listener.Phase.TheVariants.{Inside}
-use Rattle.line.specs.declared.listener.Sign.{Sign}
-use Rattle.line.specs.declared.listener.Sign.TheVariants.{Nothing, Bit, Flag}
+use Rattle.line.specs.declared.listener.Sign.TheVariants.{Flag}
 use Rattle.line.specs.declared.packer.Packer.{Packer}
 use Rattle.line.specs.declared.scan.Body.{Body}
-use Rattle.line.specs.declared.scan.Body.TheVariants.{Empty, TooLong, Unclosed, Broken, Misaligned, Octets}
+use Rattle.line.specs.declared.scan.Body.TheVariants.{Empty, TooLong, Unclosed}
 use Rattle.line.specs.Bits.{low, bits_of, octets_in, decoded, heard, bits_in}
 use Rattle.line.specs.Flags.{flag, starts, first_flag, past_flags, closing, between}
-use Rattle.line.specs.Hearing.{in_time, closes_by}
-use Rattle.line.proofs.Views.{LastZero, Missing, View, next, sign}
+use Rattle.line.specs.Hearing.{closes_by}
+use Rattle.line.proofs.Views.{Missing, View, next, sign}
 use Rattle.line.specs.Packing.{held}
-use Rattle.line.specs.Scanning.{Begun, Closed, Right, Packed, Found, closed_as}
+use Rattle.line.specs.Scanning.{Closed, Right, Packed, Found, closed_as}
 use Rattle.line.specs.Stuffing.{unstuff, unstuffed}
-use Rattle.line.proofs.Lengths.{length-low, length_bits_of, length-held}
-use Rattle.line.proofs.Listens.{behind, Sound, sound-next, goes_on, grows, short, flagged, Tells, packs, tells-on, tells_first, Closing, closes_at, flag-place, seven_seen, unstuffs}
+use Rattle.line.proofs.Lengths.{length_bits_of, length-held}
+use Rattle.line.proofs.Listens.{behind, Sound, sound-next, goes_on, grows, short, Tells, packs, tells-on, tells_first, Closing, closes_at, flag-place, seven_seen, unstuffs}
 use Rattle.line.proofs.Octets.{octets-back}
 use Rattle.line.proofs.Places.{heard-more, heard-none, heard-from, length-heard, no_room, not_before, none_here, later-here, first-here, front-is, no_more-flags, one-more-flag, drop-heard}
-use Rattle.line.proofs.Runs.{ones, front, then, same_place}
+use Rattle.line.proofs.Runs.{ones, then, same_place}
 
 -- the bits that a packer holds
 abbrev pub bits_held : Packer → List ℕ → List Bool

@@ -1,5 +1,5 @@
 -- Decoded bits.
-use Rattle.std.proofs.Common.{◌≡◌, ℕ, zero, suc, ◌+◌, ◌-◌, Bool, true, List, refl, ap, ◌∙◌, add-one, arith}
+use Rattle.std.proofs.Common.{◌≡◌, ℕ, zero, suc, ◌+◌, ◌-◌, Bool, true, List, refl, add-one, arith}
 use mathlib.Core.Bool.{beq}
 use Rattle.line.specs.Bits.{tone, tone_before, decoded}
 

@@ -1,5 +1,5 @@
 -- How long bits and buffers are.
-use Rattle.std.proofs.Common.{◌≡◌, ℕ, zero, suc, ◌+◌, ◌*◌, ◌≤◌, Bool, List, [], ◌∷◌, ◌++◌, length, take, refl, ap, append-nil, arith}
+use Rattle.std.proofs.Common.{◌≡◌, ℕ, zero, suc, ◌+◌, ◌*◌, ◌≤◌, List, [], ◌∷◌, length, take, refl, ap, append-nil, arith}
 use Rattle.std.proofs.lemmas.List.{length-append, length-take-le}
 use Rattle.line.specs.Bits.{low, bits_of}
 use Rattle.line.specs.Packing.{held}

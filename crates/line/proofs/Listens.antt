@@ -1,16 +1,16 @@
 -- What a listener in a body has seen, and what is still to come.
-use Rattle.std.proofs.Common.{◌≡◌, ℕ, zero, suc, ◌+◌, ◌-◌, ◌<◌, ◌≤◌, Bool, true, false, cond, eqb, ltb, ◌⊎◌, List, [], ◌∷◌, ◌++◌, length, replicate, Some, None, Option, sym, refl, ap, ◌∙◌, subst, inl, inr, append_assoc, append-nil, arith}
+use Rattle.std.proofs.Common.{◌≡◌, ℕ, zero, suc, ◌+◌, ◌-◌, ◌<◌, ◌≤◌, Bool, true, false, cond, eqb, ltb, List, [], ◌∷◌, ◌++◌, length, Some, None, Option, sym, refl, ap, ◌∙◌, subst, inl, inr, append_assoc, append-nil, arith}
 use Rattle.std.proofs.lemmas.List.{length-replicate, replicate_more}
-use Rattle.std.proofs.lemmas.Bool.{cond_both, cond-true, cond-false, cases_Bool, cases_eq, eqb-true, eqb-false, eq-eqb, ltb-true, ltb-false, lt-ltb, le-ltb}
+use Rattle.std.proofs.lemmas.Bool.{cond_both, cond-true, cond-false, cases_Bool, eqb-true, eqb-false, eq-eqb, ltb-true}
 use Rattle.line.specs.declared.listener.Phase.{Phase}
 use Rattle.line.specs.declared.listener.Phase.TheVariants.{Hunting, Inside, AfterFiveOnes}
 use Rattle.line.specs.declared.listener.Sign.{Sign}
 use Rattle.line.specs.declared.listener.Sign.TheVariants.{Nothing, Bit, Flag}
-use Rattle.line.specs.Flags.{flag, starts, first_flag}
+use Rattle.line.specs.Flags.{starts, first_flag}
 use Rattle.line.specs.Listening.{tell}
 use Rattle.line.proofs.Views.{LastZero, Missing, Kept, Removed, View, go, next, sign, sixth, SoundBy}
 use Rattle.line.specs.Stuffing.{unstuff, prepend}
-use Rattle.line.proofs.Runs.{ones, same_place, one_more, past_ones, past-run, past_seven, front, then, prepend-prepend, prepend-none, then-prepend, prepend-then, then-nothing, front-ones, front-run, unstuff-ones, unstuff-six, unstuff-zero, any-ones}
+use Rattle.line.proofs.Runs.{ones, same_place, one_more, past_ones, past-run, past_seven, front, then, prepend-prepend, prepend-none, then-prepend, prepend-then, then-nothing, front-ones, front-run, unstuff-ones, unstuff-six, any-ones}
 
 -- the last bits that matter: a 0 and the 1s behind it, or only 1s where there is no 0 in the body yet
 abbrev pub seen : LastZero → ℕ → List Bool

@@ -1,5 +1,5 @@
 -- One more bit behind octets and a part of an octet.
-use Rattle.std.proofs.Common.{◌≡◌, ℕ, zero, suc, ◌+◌, ◌*◌, ◌/◌, ◌%◌, ◌^◌, ◌<◌, ◌≤◌, Bool, true, false, cond, eqb, List, [], ◌∷◌, ◌++◌, length, take, drop, set, sym, refl, ap, ◌∙◌, subst, append_assoc, append-nil, mul-one, add-one, arith, pow_mono}
+use Rattle.std.proofs.Common.{◌≡◌, ℕ, zero, suc, ◌+◌, ◌*◌, ◌/◌, ◌%◌, ◌^◌, ◌<◌, ◌≤◌, Bool, true, false, cond, List, [], ◌∷◌, ◌++◌, length, take, drop, set, sym, refl, ap, ◌∙◌, append_assoc, append-nil, add-one, arith, pow_mono}
 use lib.Bits.{bit_and, bit_or, and_mask, and_zero_r, or_shifted_r, or_zero_r, block_half, block_odd}
 use mir.Val.{bool_byte}
 use Rattle.std.proofs.lemmas.Nat.{one_shl, pow-add}

@@ -1,18 +1,17 @@
 -- One stretch of bits after another.
-use Rattle.std.proofs.Common.{◌≡◌, ℕ, zero, suc, ◌+◌, ◌-◌, ◌*◌, ◌/◌, ◌%◌, ◌^◌, ◌<◌, ◌≤◌, Bool, true, false, cond, eqb, List, [], ◌∷◌, ◌++◌, length, get_or, take, drop, replicate, sym, refl, ap, ◌∙◌, subst, append_assoc, append-nil, add-one, one-add, arith}
+use Rattle.std.proofs.Common.{◌≡◌, ℕ, zero, suc, ◌+◌, ◌-◌, ◌*◌, ◌/◌, ◌^◌, ◌<◌, ◌≤◌, Bool, true, false, eqb, List, [], ◌∷◌, ◌++◌, length, get_or, take, drop, replicate, sym, refl, ap, ◌∙◌, subst, append_assoc, append-nil, add-one, one-add, arith}
 use mathlib.Core.Bool.{beq}
 use lib.Bits.{bit_and, and_mask}
-use Rattle.std.proofs.lemmas.List.{length-append, take_more, length-take-le, replicate_more, drop-drop}
+use Rattle.std.proofs.lemmas.List.{length-append, take_more, replicate_more, drop-drop}
 use Rattle.std.proofs.lemmas.Nat.{shr-shr}
 use Rattle.std.proofs.lemmas.Bool.{true≢false, false≢true}
 use Rattle.line.specs.declared.sender.Sender.{Sender}
 use Rattle.line.specs.Bits.{odd, low, bits_of}
 use Rattle.line.specs.Flags.{flag}
-use Rattle.line.specs.Packing.{held}
 use Rattle.line.specs.Stuffing.{stuff}
 use Rattle.line.specs.Burst.{tones, last_tone, flags, octet_count, filling}
-use Rattle.line.specs.Sending.{Sent, Sends, after, sent, count}
-use Rattle.line.proofs.Lengths.{length-low, length_bits_of, held-zero}
+use Rattle.line.specs.Sending.{Sends, after, sent, count}
+use Rattle.line.proofs.Lengths.{held-zero}
 use Rattle.line.proofs.Pack.{bits_of_append}
 
 pub behind_more : (m n : ℕ) (a b : List ℕ) → m ≤ n → drop m a ≡ drop m b → drop n a ≡ drop n b

@@ -1,5 +1,5 @@
 -- A listener seen by the last 0 of the body.
-use Rattle.std.proofs.Common.{◌≡◌, ℕ, ◌+◌, ◌%◌, ◌≤◌, Bool, true, false, cond, ◌&&◌, eqb, ltb, sym, refl, ap, ◌∙◌, arith}
+use Rattle.std.proofs.Common.{◌≡◌, ℕ, ◌+◌, ◌%◌, ◌≤◌, Bool, true, false, cond, ◌&&◌, eqb, ltb, refl, ap, ◌∙◌, arith}
 use Rattle.line.specs.declared.listener.Phase.{Phase}
 use Rattle.line.specs.declared.listener.Phase.TheVariants.{Hunting, Inside, AfterFiveOnes}
 use Rattle.line.specs.declared.listener.Boundary.{Boundary}

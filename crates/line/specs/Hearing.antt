@@ -1,9 +1,8 @@
 -- What is heard of a burst: the questions from the work buffer to the FCS, in their order.
-use Rattle.std.specs.Prelude.{◌≡◌, ℕ, ◌+◌, ◌-◌, ◌*◌, ◌%◌, ◌≤◌, Bool, true, false, cond, ◌&&◌, ◌||◌, List, [], ◌++◌, length, take, replicate, Some, None, Ok, Err, Option, Result, ◌==◌, nat_le}
+use Rattle.std.specs.Prelude.{◌≡◌, ℕ, ◌+◌, ◌-◌, ◌*◌, ◌%◌, ◌≤◌, Bool, false, cond, ◌&&◌, ◌||◌, List, [], ◌++◌, length, take, replicate, Some, None, Ok, Err, Option, Result, ◌==◌, nat_le}
 use Rattle.answers.specs.Questions.{Questions, otherwise, ◌⨟◌, ask, found, first}
 use Rattle.answers.specs.declared.refusal.Refusal.{Refusal}
 use Rattle.answers.specs.declared.refusal.Refusal.TheVariants.{WorkTooShort, OutOfBounds, BurstTooLong, Framing, OctetAlign, FcsFail}
-use Rattle.line.specs.declared.heard.Hearing.{Hearing}
 use Rattle.line.specs.declared.heard.Hearing.TheVariants.{Quiet, Refused, Frame}
 use Rattle.line.specs.declared.heard.Heard.{Heard}
 use Rattle.line.specs.Bits.{bits_in, octets_in}

@@ -1,5 +1,6 @@
 // The line: a burst of tones is heard as a frame of octets, and a message is written as a burst.
 #![tactic(auto)]
+
 pub mod burst;
 pub mod check;
 pub mod frame;

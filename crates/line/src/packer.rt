@@ -1,6 +1,6 @@
 // Bits into octets, lowest bit first.
 ghost use Rattle.std.specs.Prelude.{◌≡◌, ℕ, ◌+◌, ◌*◌, ◌%◌, ◌^◌, ◌<◌, ◌≤◌, [], ◌∷◌, ◌++◌, length, drop};
-ghost use Rattle.std.specs.List.{AllByRecursion as All};
+ghost use Rattle.std.specs.List.{AllByRecursion};
 ghost use Rattle.line.specs.Packing.{held};
 
 // How far a buffer is filled: whole octets, and the low bits of the next one.
@@ -46,7 +46,7 @@ impl Packer {
             → 8 * self.new.octets + self.new.fill ≡ 8 * self.old.octets + self.old.fill + 1 }
         ensures fill { self.new.fill ≡ (self.old.fill + 1) % 8 }
         ensures behind { drop self.new.octets out.new ≡ drop self.new.octets out.old }
-        ensures octets { All (λ o. o < 256) out.old → All (λ o. o < 256) out.new }
+        ensures octets { AllByRecursion (λ o. o < 256) out.old → AllByRecursion (λ o. o < 256) out.new }
     {
         let part = self.part | (u8::from(bit) << self.fill);
         if self.fill < 7 {

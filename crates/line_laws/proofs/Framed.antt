@@ -1,10 +1,9 @@
 -- Where the flags of a sent frame stand.
-use Rattle.std.proofs.Common.{◌≡◌, ℕ, zero, suc, ◌+◌, ◌-◌, ◌*◌, ◌<◌, ◌≤◌, Bool, true, false, cond, ◌&&◌, ◌⊎◌, List, [], ◌∷◌, ◌++◌, length, take, drop, replicate, Some, None, sym, refl, ap, ◌∙◌, subst, inl, inr, append_assoc, append-nil, not-suc-le-zero, arith}
-use Rattle.std.proofs.lemmas.List.{take_at, drop_at, drop-drop, length-append}
-use Rattle.std.proofs.lemmas.Bool.{true≢false, false≢true, both_ways}
-use Rattle.line.specs.Bits.{odd, low, bits_of}
+use Rattle.std.proofs.Common.{◌≡◌, ℕ, zero, suc, ◌+◌, ◌-◌, ◌*◌, ◌<◌, ◌≤◌, Bool, true, false, List, [], ◌∷◌, ◌++◌, length, take, drop, replicate, Some, sym, refl, ap, ◌∙◌, append_assoc, append-nil, not-suc-le-zero, arith}
+use Rattle.std.proofs.lemmas.List.{take_at, drop_at, drop-drop}
+use Rattle.std.proofs.lemmas.Bool.{both_ways}
 use Rattle.line.specs.Burst.{flags, flagged}
-use Rattle.line.specs.Flags.{flag, starts, body_start, closing, between, FirstAt, OpensAt}
+use Rattle.line.specs.Flags.{flag, starts, body_start, closing, between, OpensAt}
 use Rattle.line.specs.Stuffing.{stuff, stuffed}
 use Rattle.line.proofs.Whole.{length-flagged}
 use Rattle.line_laws.proofs.Firsts.{flag-stands, stands-flag, closing-told}

@@ -1,8 +1,8 @@
 -- The body's start, as a function and as a relation.
-use Rattle.std.proofs.Common.{◌≡◌, ℕ, zero, suc, ◌+◌, ◌-◌, ◌*◌, ◌<◌, ◌≤◌, Bool, true, false, cond, ltb, ◌⊎◌, List, [], ◌∷◌, length, take, drop, Some, None, Option, sym, refl, ap, ◌∙◌, subst, inl, inr, arith}
-use Rattle.std.proofs.lemmas.List.{drop-drop, drop_all, length-drop}
+use Rattle.std.proofs.Common.{◌≡◌, ℕ, zero, suc, ◌+◌, ◌-◌, ◌*◌, ◌<◌, ◌≤◌, Bool, true, false, ltb, List, [], length, drop, Some, None, Option, sym, refl, ap, ◌∙◌, subst, inl, inr, arith}
+use Rattle.std.proofs.lemmas.List.{drop-drop, drop_all}
 use Rattle.std.proofs.lemmas.Bool.{cond-true, cond-false, cases_Bool, cases_eq, both_ways, ltb-true, lt-ltb}
-use Rattle.line.specs.Flags.{flag, starts, first_flag, past_flags, within, behind_opening, body_start, FlagAt, FirstAt, OpensAt}
+use Rattle.line.specs.Flags.{flag, starts, first_flag, past_flags, within, behind_opening, body_start, FlagAt, OpensAt}
 use Rattle.line.proofs.Places.{flag-inside, no_more-flags, one-more-flag}
 use Rattle.line_laws.specs.Passing.{Opening}
 use Rattle.line_laws.proofs.Firsts.{flag-stands, stands-flag, first-told, first-only}

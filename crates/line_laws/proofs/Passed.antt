@@ -1,22 +1,21 @@
 -- A frame that passes is what the writer makes of its message.
-use Rattle.std.proofs.Common.{◌≡◌, ℕ, zero, suc, ◌+◌, ◌-◌, ◌*◌, ◌/◌, ◌%◌, ◌^◌, ◌<◌, ◌≤◌, Bool, true, false, cond, ◌&&◌, eqb, leb, ◌⊎◌, List, [], ◌∷◌, ◌++◌, length, take, drop, Some, None, Option, sym, refl, ap, ◌∙◌, subst, inl, inr, arith, pow_mono}
-use Rattle.std.specs.List.{AllByRecursion as All}
-use Rattle.std.proofs.lemmas.List.{take-append-drop, length-take-le, length-drop, length-take, take_all, take_at, drop_at, length-append}
+use Rattle.std.proofs.Common.{◌≡◌, ℕ, zero, suc, ◌+◌, ◌-◌, ◌*◌, ◌/◌, ◌%◌, ◌^◌, ◌<◌, ◌≤◌, Bool, true, false, eqb, List, [], ◌∷◌, ◌++◌, length, take, drop, Some, None, Option, sym, refl, ap, ◌∙◌, subst, arith, pow_mono}
+use Rattle.std.proofs.lemmas.List.{take-append-drop, length-take-le, length-drop, length-take}
 use Rattle.std.proofs.ByRecursion.{All-take, All-drop}
-use Rattle.std.proofs.lemmas.Bool.{cases_eq, eqb-true, eq-eqb, ne_eqb, leb-true, and_parts, cond-true, cond-false}
-use Rattle.answers.specs.Questions.{Questions, otherwise, ◌⨟◌, ask, found, first}
+use Rattle.std.proofs.lemmas.Bool.{eqb-true, leb-true, and_parts}
+use Rattle.answers.specs.Questions.{Questions, ◌⨟◌, ask, found, first}
 use Rattle.answers.specs.declared.refusal.Refusal.{Refusal}
 use Rattle.answers.specs.declared.refusal.Refusal.TheVariants.{BurstTooLong, Framing, OctetAlign, FcsFail}
 use Rattle.line.specs.declared.heard.Heard.{Heard}
 use Rattle.line.specs.declared.heard.Hearing.TheVariants.{Quiet, Refused, Frame}
-use Rattle.line.specs.Bits.{odd, low, bits_of, number, octets_of, octets_in}
+use Rattle.line.specs.Bits.{low, bits_of, number, octets_of, octets_in}
 use Rattle.line.specs.Burst.{body_of}
-use Rattle.line.specs.Fcs.{register, residue, tail}
+use Rattle.line.specs.Fcs.{register, tail}
 use Rattle.line.specs.Flags.{body_start, closing, between}
 use Rattle.line.specs.Hearing.{longest_body, in_time, checked, Outcome, hears_line, refused_at, quiet_at, frame_at}
 use Rattle.line.specs.Stuffing.{stuffed, unstuffed}
 use Rattle.line.proofs.Pack.{pow_suc}
-use Rattle.line_laws.specs.Passing.{Octets, Sent, PassedIsSent}
+use Rattle.line_laws.specs.Passing.{Octets, PassedIsSent}
 use Rattle.line_laws.proofs.Firsts.{closing-told}
 use Rattle.line_laws.proofs.Openings.{opening_told}
 use Rattle.line_laws.proofs.Residues.{checking_told}

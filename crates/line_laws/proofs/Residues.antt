@@ -1,10 +1,9 @@
 -- The residue: a message with its FCS leaves it, and nothing else does.
-use Rattle.std.proofs.Common.{◌≡◌, ℕ, zero, suc, ◌+◌, ◌-◌, ◌*◌, ◌/◌, ◌%◌, ◌^◌, ◌<◌, ◌≤◌, Bool, true, false, cond, eqb, leb, ◌⊎◌, List, [], ◌∷◌, ◌++◌, length, fold, sym, refl, ap, ◌∙◌, subst, inl, inr, arith, lit<}
+use Rattle.std.proofs.Common.{◌≡◌, ℕ, zero, suc, ◌+◌, ◌-◌, ◌*◌, ◌/◌, ◌%◌, ◌^◌, ◌<◌, ◌≤◌, cond, eqb, leb, List, [], ◌∷◌, ◌++◌, length, fold, sym, refl, ap, ◌∙◌, arith, lit<}
 use lib.Bits.{bit_xor, xor_lt, xor_block, xor_zero_r, xor_self, xor_assoc, xor_comm, xor_shr, xor_mod}
-use Rattle.std.specs.List.{AllByRecursion as All}
-use Rattle.std.proofs.lemmas.Bool.{cond_both, cond-true, cond-false, cases_Bool, eqb-true, eqb-false, eq-eqb, le-leb, lt-leb}
-use Rattle.line.specs.Fcs.{shift, shifts, step, register, fcs_of, tail, residue}
-use Rattle.line_laws.proofs.Tables.{every, each}
+use Rattle.std.proofs.lemmas.Bool.{cond_both, cond-true, cond-false, eqb-true, eqb-false, le-leb, lt-leb}
+use Rattle.line.specs.Fcs.{shift, shifts, step, register, tail, residue}
+use Rattle.line_laws.proofs.Tables.{each}
 use Rattle.line_laws.specs.Passing.{Octets, Checking}
 
 shift_lt : (r : ℕ) → r < 65536 → shift r < 65536

@@ -1,18 +1,16 @@
 -- What was sent is heard.
-use Rattle.std.proofs.Common.{◌≡◌, ℕ, zero, suc, ◌+◌, ◌-◌, ◌*◌, ◌/◌, ◌%◌, ◌<◌, ◌≤◌, Bool, true, false, cond, ◌&&◌, eqb, leb, List, [], ◌∷◌, ◌++◌, length, take, drop, Some, Ok, Err, Result, sym, refl, ap, ◌∙◌, subst, arith}
-use Rattle.std.specs.List.{AllByRecursion as All}
+use Rattle.std.proofs.Common.{◌≡◌, ℕ, zero, suc, ◌+◌, ◌-◌, ◌*◌, ◌%◌, ◌<◌, ◌≤◌, Bool, true, false, cond, leb, List, [], ◌∷◌, ◌++◌, length, Ok, Err, Result, refl, ap, ◌∙◌, arith}
 use Rattle.std.proofs.lemmas.List.{length-append}
 use Rattle.std.proofs.ByRecursion.{All-append}
 use Rattle.std.proofs.lemmas.Bool.{cond-true, le-leb, leb-true, and_from, or_left, eq-eqb}
 use Rattle.line.specs.declared.heard.Hearing.TheVariants.{Frame}
-use Rattle.line.specs.Bits.{bits_of, bits_in, octets_in}
+use Rattle.line.specs.Bits.{bits_of, octets_in}
 use Rattle.answers.specs.declared.refusal.Refusal.{Refusal}
 use Rattle.answers.specs.declared.refusal.Refusal.TheVariants.{MessageTooLong, OutputTooShort}
-use Rattle.line.specs.Burst.{body_of, frame, flagged, octet_count, Written, writing}
-use Rattle.line.specs.Fcs.{register, tail, residue}
-use Rattle.line.specs.Flags.{body_start, closing, between}
-use Rattle.line.specs.Hearing.{Outcome, hears, hears_line, refused_at, quiet_at, frame_at, in_time, closes_by, checked}
-use Rattle.line.specs.Scanning.{Closed, Right}
+use Rattle.line.specs.Burst.{body_of, frame, flagged, octet_count, writing}
+use Rattle.line.specs.Fcs.{tail}
+use Rattle.line.specs.Hearing.{hears, hears_line, refused_at, quiet_at, frame_at, closes_by, checked}
+use Rattle.line.specs.Scanning.{Right}
 use Rattle.line.specs.Stuffing.{stuff, stuffed, unstuffed}
 use Rattle.line.proofs.Answering.{all_right}
 use Rattle.line.proofs.Lengths.{length_bits_of}

@@ -1,5 +1,5 @@
 -- The tones of a burst are decoded to the bits that were sent.
-use Rattle.std.proofs.Common.{◌≡◌, ℕ, zero, suc, ◌+◌, ◌-◌, ◌*◌, ◌/◌, ◌%◌, ◌^◌, ◌<◌, ◌≤◌, Bool, true, false, List, [], ◌∷◌, ◌++◌, map, length, get_or, take, drop, replicate, sym, refl, ap, ◌∙◌, subst, inl, inr, not-suc-le-zero, add-one, one-add, arith}
+use Rattle.std.proofs.Common.{◌≡◌, ℕ, zero, suc, ◌+◌, ◌-◌, ◌*◌, ◌/◌, ◌%◌, ◌^◌, ◌<◌, ◌≤◌, Bool, true, false, List, [], ◌∷◌, map, length, get_or, take, drop, sym, refl, ap, ◌∙◌, subst, inl, inr, not-suc-le-zero, add-one, one-add, arith}
 use mathlib.Core.Bool.{beq}
 use Rattle.std.specs.List.{range_with_len}
 use Rattle.std.proofs.lemmas.List.{take_at, length-take-le, get_or-take, get_or_append_left, get_or-append_right, take-append-le, take-append-drop}
@@ -7,7 +7,7 @@ use Rattle.std.proofs.lemmas.List.FromFn.{fill_by_all}
 use Rattle.std.proofs.lemmas.Nat.{shr-shr}
 use Rattle.std.proofs.lemmas.Bool.{cases_lt}
 use Rattle.line.specs.Bits.{odd, low, bits_of, tone, tone_before, decoded, heard, bits_in}
-use Rattle.line.specs.Burst.{tones, last_tone, toned, octet_count, filling, Written}
+use Rattle.line.specs.Burst.{tones, toned, octet_count, Written}
 use Rattle.line.proofs.Lengths.{length-low, length_bits_of}
 use Rattle.line.proofs.Pack.{bits_of_append}
 

@@ -1,6 +1,6 @@
 -- Stuffing and its way back.
-use Rattle.std.proofs.Common.{◌≡◌, ℕ, zero, suc, Bool, true, false, List, [], ◌∷◌, ◌++◌, Some, None, Option, sym, refl, ap, ◌∙◌, subst, arith}
-use Rattle.line.specs.Stuffing.{stuff, unstuff, prepend, stuffed, unstuffed}
+use Rattle.std.proofs.Common.{◌≡◌, ℕ, zero, suc, Bool, true, false, List, [], ◌∷◌, Some, None, Option, sym, refl, ap, ◌∙◌, arith}
+use Rattle.line.specs.Stuffing.{stuff, unstuff, prepend}
 use Rattle.line_laws.specs.Passing.{Unstuffing}
 
 pub stuff-back : (n : ℕ) (bits : List Bool) → unstuff (suc n) (stuff n bits) ≡ Some bits

@@ -1,6 +1,6 @@
 -- What is behind the functions that look for flags and take stuffing out, and what every frame that passes is.
-use Rattle.std.specs.Prelude.{◌≡◌, ℕ, ◌+◌, ◌<◌, ◌≤◌, Bool, List, ◌++◌, length, Some, None}
-use Rattle.std.specs.List.{AllByRecursion as All}
+use Rattle.std.specs.Prelude.{◌≡◌, ℕ, ◌+◌, ◌<◌, Bool, List, ◌++◌, length, Some}
+use Rattle.std.specs.List.{AllByRecursion}
 use Rattle.line.specs.declared.heard.Hearing.TheVariants.{Frame}
 use Rattle.line.specs.Fcs.{register, residue, tail}
 use Rattle.line.specs.Flags.{body_start, closing, between, FirstAt, OpensAt}
@@ -30,7 +30,7 @@ pub record Checking (message last : List ℕ) : Type 0 where
 
 -- octets, each below 256
 abbrev pub Octets : List ℕ → Type 0
-Octets os = All (λ o. o < 256) os
+Octets os = AllByRecursion (λ o. o < 256) os
 
 abbrev pub FlagsTold : Type 0
 FlagsTold = (bits : List Bool) (start b : ℕ) → Opening bits start b × Closing bits start b

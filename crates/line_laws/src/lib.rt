@@ -1,4 +1,5 @@
 // The laws of the line.
 #![tactic(auto)]
+
 pub mod laws;
 pub mod loopback;

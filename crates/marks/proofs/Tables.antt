@@ -1,5 +1,5 @@
 -- One place of a list.
-use Rattle.std.proofs.Common.{◌≡◌, ℕ, List, length, get_or, set, refl}
+use Rattle.std.proofs.Common.{ℕ, List, set, refl}
 use Rattle.std.proofs.lemmas.List.{length-set, get_or-set_other}
 use Rattle.marks.specs.declared.mark.Cell.{Cell}
 use Rattle.marks.specs.declared.mark.Cell.TheVariants.{Torn}

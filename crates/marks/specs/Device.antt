@@ -1,7 +1,7 @@
 -- What a list of cells under a power supply means, and what its calls do to that meaning.
-use Rattle.std.specs.Prelude.{◌≡◌, ℕ, ◌+◌, ◌<◌, ◌≤◌, Bool, true, false, ◌⊎◌, List, length, slice_index_or, slice_set}
+use Rattle.std.specs.Prelude.{◌≡◌, ℕ, ◌+◌, ◌<◌, ◌≤◌, Bool, true, false, List, length, slice_index_or, slice_set}
 use Rattle.marks.specs.declared.mark.Cell.{Cell}
-use Rattle.marks.specs.declared.mark.Cell.TheVariants.{Blank, Torn, Held}
+use Rattle.marks.specs.declared.mark.Cell.TheVariants.{Torn, Held}
 use Rattle.marks.specs.declared.mark.Record.{Record}
 use Rattle.marks.specs.declared.mark.CutLeaves.{CutLeaves}
 use Rattle.marks.specs.declared.mark.CutLeaves.TheVariants.{Old, New, Torn as Tears}

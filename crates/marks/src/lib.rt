@@ -1,5 +1,6 @@
 // Marks of sender pairs, and memory cells that hold them through power cuts.
 #![tactic(auto)]
+
 pub mod cells;
 mod codec;
 pub mod image;

@@ -1,5 +1,5 @@
 -- Identifiers that were read have 16 octets, and what octets are refused for.
-use Rattle.std.proofs.Common.{◌≡◌, ℕ, ◌-◌, Bool, true, false, cond, ◌&&◌, eqb, leb, List, length, Some, None, Ok, Err, Option, Result, sym, refl, ap, ◌∙◌, subst, arith}
+use Rattle.std.proofs.Common.{◌≡◌, ℕ, true, false, cond, ◌&&◌, eqb, List, length, Some, None, Ok, Err, Result, sym, ap, ◌∙◌, subst, arith}
 use Rattle.std.proofs.lemmas.Bool.Decides.{nat_tests}
 use Rattle.answers.specs.declared.refusal.Refusal.TheVariants as refusal
 use Rattle.items.specs.declared.types.Fault.{Fault}
@@ -8,14 +8,13 @@ use Rattle.items.specs.declared.types.Reading.{Reading}
 use Rattle.items.specs.declared.types.Span.{Span}
 use Rattle.items.specs.Reading.{read_of}
 use Rattle.items.specs.Heads.{part}
-use Rattle.items.specs.Fields.{bind, argument_at, key_at, string_at, map_at}
+use Rattle.items.specs.Fields.{argument_at, key_at, string_at, map_at}
 use Rattle.message.specs.declared.types.Mid.{Mid}
 use Rattle.message.specs.declared.types.Cmd.{Cmd}
 use Rattle.message.specs.declared.types.Auth.{Auth}
-use Rattle.message.specs.declared.types.Meta.{Meta}
 use Rattle.message.specs.declared.types.View.{View}
 use Rattle.message.specs.Messages.{readable, message_of}
-use Rattle.message.specs.Entries.{map_of, id_at, alg_at, context_at, next_key, chosen, optional, ended}
+use Rattle.message.specs.Entries.{map_of, id_at, alg_at, context_at, optional, ended}
 use Rattle.message.specs.Parts.{mid_at, cmd_at, auth_at, meta_at, body_at, view_of}
 use Rattle.message.proofs.Bounds.{some_same, bound, cond-some, string_lies, part-long}
 

@@ -1,5 +1,6 @@
 // A message: its octets become typed fields, or a refusal; then what the rules ask of the fields.
 #![tactic(auto)]
+
 mod entries;
 mod expiry;
 mod message;

@@ -1,17 +1,17 @@
 -- auth is read exactly where it is encoded, and the places in it are known.
-use Rattle.std.proofs.Common.{◌≡◌, ℕ, suc, ◌+◌, ◌^◌, ◌<◌, ◌≤◌, List, ◌++◌, length, Some, None, Option, sym, refl, ap, ◌∙◌, subst, arith}
+use Rattle.std.proofs.Common.{◌≡◌, ℕ, suc, ◌+◌, ◌≤◌, List, ◌++◌, length, Some, Option, sym, refl, ap, ◌∙◌, subst, arith}
 use Rattle.items.specs.declared.types.Span.{Span}
-use Rattle.items.specs.Fields.{bind, argument_at, key_at, string_at}
-use Rattle.items.specs.Trees.{Item, unsigned, bytes, map, Entries, no_entries, head_of, map_size, encoding, entries_encoding, Runs}
+use Rattle.items.specs.Fields.{key_at, string_at}
+use Rattle.items.specs.Trees.{Item, unsigned, bytes, no_entries, head_of, map_size, encoding, entries_encoding, Runs}
 use Rattle.items_laws.specs.Laws.{Octets}
 use Rattle.items_laws.specs.Exact.{Spot}
 use Rattle.items_laws.proofs.Runnings.{bound, cut, runs_in, key_back, key-sound, runs_join, bytes-exact}
 use Rattle.message.specs.declared.types.Auth.{Auth}
-use Rattle.message.specs.Entries.{map_of, id_at, alg_at, context_at, optional, ended}
+use Rattle.message.specs.Entries.{map_of, id_at, alg_at, context_at, optional}
 use Rattle.message.specs.Parts.{auth_at}
 use Rattle.message.specs.Fields.{optionally, auth_tree}
 use Rattle.message.proofs.Bounds.{string_lies}
-use Rattle.message_laws.proofs.Ways.{id_parses, IsAlg, alg-parses, context_parses, map-sound, map_back, Given, optional-sound, optional-back, Took, Opt, optionally-few, no_key, ended_is}
+use Rattle.message_laws.proofs.Ways.{id_parses, IsAlg, alg-parses, context_parses, map-sound, map_back, Given, optional-sound, optional-back, optionally-few, no_key, ended_is}
 use Rattle.message_laws.proofs.Cmds.{Short}
 use Rattle.message_laws.specs.Shows.{Both}
 

@@ -1,5 +1,5 @@
 -- What is asked of a message, on its fields.
-use Rattle.std.proofs.Common.{◌≡◌, ℕ, Bool, eqb, List, Some, None, Option, sym, refl, ap, ◌∙◌}
+use Rattle.std.proofs.Common.{◌≡◌, ℕ, eqb, List, Some, None, Option, refl, ap, ◌∙◌}
 use Rattle.std.specs.Str.{bytes_eq}
 use Rattle.items.specs.declared.types.Span.{Span}
 use Rattle.items.specs.Heads.{part}

@@ -1,17 +1,17 @@
 -- cmd and meta are read exactly where they are encoded.
-use Rattle.std.proofs.Common.{◌≡◌, ℕ, suc, ◌+◌, ◌-◌, ◌^◌, ◌<◌, ◌≤◌, cond, List, length, Some, None, Option, sym, refl, ap, ◌∙◌, subst, arith}
+use Rattle.std.proofs.Common.{◌≡◌, ℕ, suc, ◌+◌, ◌-◌, ◌^◌, ◌<◌, ◌≤◌, List, length, Some, Option, sym, refl, ap, ◌∙◌, subst, arith}
 use Rattle.items.specs.declared.types.Span.{Span}
-use Rattle.items.specs.Fields.{bind, argument_at, key_at, string_at, map_at}
-use Rattle.items.specs.Trees.{Item, unsigned, bytes, map, Entries, no_entries, head_of, map_size, encoding, entries_encoding, Canonical, At, Runs}
+use Rattle.items.specs.Fields.{argument_at, key_at, string_at, map_at}
+use Rattle.items.specs.Trees.{Item, bytes, map, Entries, no_entries, head_of, map_size, encoding, entries_encoding, Canonical, Runs}
 use Rattle.items_laws.specs.Laws.{Octets}
 use Rattle.items_laws.specs.Exact.{Spot}
 use Rattle.items_laws.proofs.Runnings.{bound, cut, runs_in, argument-back, argument-sound, key_back, key-sound, runs_join, bytes-exact, map-exact}
 use Rattle.message.specs.declared.types.Cmd.{Cmd}
 use Rattle.message.specs.declared.types.Meta.{Meta}
-use Rattle.message.specs.Entries.{map_of, context_at, optional, ended}
+use Rattle.message.specs.Entries.{map_of, context_at, optional}
 use Rattle.message.specs.Parts.{cmd_at, meta_at}
 use Rattle.message.specs.Fields.{optionally, cmd_tree, meta_tree}
-use Rattle.message_laws.proofs.Ways.{Parses, parses, context_parses, map-sound, map_back, Given, optional-sound, optional-back, Took, Opt, optionally-few, no_key, ended_is}
+use Rattle.message_laws.proofs.Ways.{Parses, parses, context_parses, map-sound, map_back, Given, optional-sound, optional-back, optionally-few, no_key, ended_is}
 use Rattle.message_laws.specs.Shows.{Both, MapSpot, MetaShows}
 
 -- the fields of cmd

@@ -6,8 +6,8 @@ use Rattle.items.specs.declared.types.Fault.{Fault}
 use Rattle.items.specs.declared.types.Fault.TheVariants.{Malformed, Indefinite}
 use Rattle.items.specs.declared.types.Reading.{Reading}
 use Rattle.items.specs.Reading.{read_of, containers}
-use Rattle.items.specs.Trees.{Item, unsigned, negative, bytes, text, array, map, simple_false, simple_true, simple_null, Items, Entries, no_entries, encoding, Canonical, value_of}
-use Rattle.items_laws.specs.Laws.{Octets, Passes, EncodesOne}
+use Rattle.items.specs.Trees.{Item, unsigned, negative, bytes, text, array, map, simple_false, simple_true, simple_null, Entries, no_entries, encoding, Canonical, value_of}
+use Rattle.items_laws.specs.Laws.{Octets, Passes}
 use Rattle.items_laws.proofs.Passing.{read-sound, read_back}
 use Rattle.items_laws.proofs.Runnings.{some_same}
 use Rattle.items_laws.proofs.Unique.{one-tree}
@@ -19,7 +19,7 @@ use Rattle.message.specs.Parts.{view_of}
 use Rattle.message.proofs.Ids.{message_ok}
 use Rattle.message_laws.specs.Shows.{Shows}
 use Rattle.message_laws.specs.Laws.{Encodes, EncodesNone}
-use Rattle.message_laws.proofs.Views.{FieldsGood, Laid, ViewBack, view-sound, view-back}
+use Rattle.message_laws.proofs.Views.{Laid, view-sound, view-back}
 use Rattle.message_laws.proofs.Valids.{valid-good, good-valid, tree-within}
 
 pub ok_err : {X E : Type 0} {x : X} {e : E} → Ok x ≡ Err e → ⊥

@@ -1,17 +1,15 @@
 -- mid is read exactly where it is encoded.
-use Rattle.std.proofs.Common.{◌≡◌, ℕ, suc, ◌+◌, ◌^◌, ◌<◌, ◌≤◌, cond, eqb, List, length, Some, None, Option, sym, refl, ap, ◌∙◌, subst, arith}
-use Rattle.std.proofs.lemmas.Bool.Decides.{nat_tests}
-use Rattle.items.specs.Fields.{bind, argument_at, key_at}
-use Rattle.items.specs.Trees.{Item, unsigned, bytes, map, Entries, no_entries, head_of, map_size, encoding, entries_encoding, Runs}
+use Rattle.std.proofs.Common.{◌≡◌, ℕ, suc, ◌+◌, ◌^◌, ◌<◌, List, length, Some, Option, sym, refl, ap, ◌∙◌, subst, arith}
+use Rattle.items.specs.Fields.{argument_at, key_at}
+use Rattle.items.specs.Trees.{Item, unsigned, no_entries, head_of, map_size, encoding, entries_encoding, Runs}
 use Rattle.items_laws.specs.Laws.{Octets}
 use Rattle.items_laws.specs.Exact.{Fits, Same}
-use Rattle.items_laws.proofs.Runnings.{some_same, bound, cond-some, cut, runs_in, argument-back, argument-sound, key_back, key-sound, runs_join, unsigned-exact}
+use Rattle.items_laws.proofs.Runnings.{bound, cut, runs_in, argument-back, argument-sound, key_back, key-sound, runs_join, unsigned-exact}
 use Rattle.message.specs.declared.types.Mid.{Mid}
-use Rattle.message.specs.Entries.{map_of, id_at, optional, ended}
+use Rattle.message.specs.Entries.{map_of, id_at, optional}
 use Rattle.message.specs.Parts.{mid_at}
 use Rattle.message.specs.Fields.{optionally, mid_tree}
-use Rattle.message_laws.proofs.Ways.{Parses, parses, id_parses, map-sound, map_back, Given, optional-sound, optional-back, Took, Opt, optionally-few, no_key, ended_is, same_option}
-use Rattle.message_laws.specs.Shows.{Both}
+use Rattle.message_laws.proofs.Ways.{Parses, parses, id_parses, map-sound, map_back, Given, optional-sound, optional-back, optionally-few, no_key, ended_is, same_option}
 
 -- the fields of mid
 pub record MidFields : Type 0 where

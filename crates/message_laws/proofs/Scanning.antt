@@ -1,16 +1,16 @@
 -- The strings of an encoding, met head by head, are those of its tree.
-use Rattle.std.proofs.Common.{◌≡◌, ℕ, zero, suc, ◌+◌, ◌*◌, ◌/◌, ◌%◌, ◌^◌, ◌<◌, ◌≤◌, Bool, true, false, cond, ◌&&◌, eqb, ltb, leb, List, [], ◌∷◌, ◌++◌, length, get_or, Some, None, Option, sym, refl, ap, ◌∙◌, subst, add_assoc, arith, length-append}
+use Rattle.std.proofs.Common.{◌≡◌, ℕ, suc, ◌+◌, ◌/◌, ◌%◌, ◌^◌, ◌<◌, ◌≤◌, Bool, true, false, cond, ◌&&◌, eqb, ltb, leb, List, [], ◌∷◌, ◌++◌, length, get_or, Some, None, sym, refl, ap, ◌∙◌, add_assoc, arith, length-append}
 use Rattle.std.proofs.lemmas.Bool.Decides.{nat_tests}
 use Rattle.items.specs.declared.types.Span.{Span}
-use Rattle.items.specs.Heads.{head_at, head_size}
-use Rattle.items.specs.Fields.{bind, argument_at, string_at, text_at}
-use Rattle.items.specs.Trees.{Item, unsigned, negative, bytes, text, array, map, simple_false, simple_true, simple_null, Items, no_items, next_item, Entries, no_entries, next-entry, head_of, array_size, map_size, encoding, items_encoding, entries_encoding, total, items_total, entries_total, Within, ItemsWithin, EntriesWithin, At, Runs}
-use Rattle.items_laws.specs.Exact.{Spot, TextFits}
-use Rattle.items_laws.proofs.Written.{at_left, at_right, at_first, Reads, head-back, short}
+use Rattle.items.specs.Heads.{head_size}
+use Rattle.items.specs.Fields.{string_at, text_at}
+use Rattle.items.specs.Trees.{Item, unsigned, negative, bytes, text, array, map, simple_false, simple_true, simple_null, Items, no_items, next_item, Entries, no_entries, next-entry, head_of, array_size, map_size, encoding, items_encoding, entries_encoding, total, items_total, entries_total, Within, ItemsWithin, EntriesWithin, At}
+use Rattle.items_laws.specs.Exact.{TextFits}
+use Rattle.items_laws.proofs.Written.{at_left, at_right, at_first, head-back}
 use Rattle.items_laws.proofs.Runnings.{argument-back, bytes-exact, text-exact}
 use Rattle.message.specs.Fields.{strings_short, items_short, entries_short}
-use Rattle.message.specs.Sizes.{bytes_most, text_most, up_to, next_head, onward, strings_fit}
-use Rattle.message.proofs.Bounds.{Headed, argument-on}
+use Rattle.message.specs.Sizes.{bytes_most, text_most, next_head, onward, strings_fit}
+use Rattle.message.proofs.Bounds.{argument-on}
 use Rattle.message.proofs.Scans.{fit_some}
 
 -- a head that is no string's is passed

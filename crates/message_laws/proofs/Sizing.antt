@@ -1,7 +1,6 @@
 -- The sizes of a message, on its fields.
-use Rattle.std.proofs.Common.{◌≡◌, ℕ, suc, ◌+◌, ◌-◌, ◌^◌, ◌<◌, ◌≤◌, Bool, true, false, ◌&&◌, leb, List, [], ◌∷◌, ◌++◌, length, Some, None, Option, sym, refl, ap, ◌∙◌, subst, append_assoc, append-nil, arith, length-append}
-use Rattle.items.specs.Reading.{message_items}
-use Rattle.items.specs.Trees.{Item, unsigned, bytes, map, Entries, no_entries, head_of, map_size, encoding, entries_encoding, total, entries_total, Within, EntriesWithin, At}
+use Rattle.std.proofs.Common.{◌≡◌, ℕ, suc, ◌+◌, ◌-◌, ◌^◌, ◌<◌, ◌≤◌, Bool, true, false, ◌&&◌, leb, List, ◌∷◌, ◌++◌, length, Some, None, Option, sym, refl, ap, ◌∙◌, append_assoc, append-nil, arith, length-append}
+use Rattle.items.specs.Trees.{unsigned, bytes, map, Entries, no_entries, head_of, encoding, entries_encoding, total, entries_total, Within, EntriesWithin}
 use Rattle.items_laws.proofs.Unique.{whole-at}
 use Rattle.items_laws.proofs.Written.{at_left, at_right}
 use Rattle.message.specs.declared.types.Meta.{Meta}
@@ -10,10 +9,9 @@ use Rattle.message.specs.Fields.{Fields, entry, optionally, mid_tree, cmd_tree, 
 use Rattle.message.specs.Sizes.{message_most, args_most, meta_most, meta_fits, strings_fit, before_signature, behind_signature, sizes_fit}
 use Rattle.message.proofs.Scans.{fit_past}
 use Rattle.message_laws.specs.Shows.{Both, MetaShows, Shows}
-use Rattle.message_laws.proofs.Ways.{optionally-few}
 use Rattle.message_laws.proofs.Auths.{bare, front, signed}
 use Rattle.message_laws.proofs.Views.{auth_of, before, size, size_small, Laid}
-use Rattle.message_laws.proofs.Splices.{whole, before-is, behind-is, one_more, behind, tree_shape}
+use Rattle.message_laws.proofs.Splices.{before-is, behind-is, one_more, behind, tree_shape}
 use Rattle.message_laws.proofs.Scanning.{fit_head, fit_entries}
 
 -- the entries before auth, those of auth before the signature, that behind it, and those behind auth

@@ -1,7 +1,7 @@
 -- What is signed is the encoding without the signature.
-use Rattle.std.proofs.Common.{◌≡◌, ℕ, suc, ◌+◌, ◌-◌, ◌≤◌, List, [], ◌∷◌, ◌++◌, length, get_or, take, drop, Some, None, Option, sym, refl, ap, ◌∙◌, append_assoc, arith, length-append, drop-drop, take_at, drop_at}
+use Rattle.std.proofs.Common.{◌≡◌, ℕ, suc, ◌+◌, ◌-◌, List, [], ◌∷◌, ◌++◌, length, get_or, take, drop, Some, None, Option, sym, refl, ap, ◌∙◌, append_assoc, arith, length-append, drop-drop, take_at, drop_at}
 use lib.Seq.{get_or_at}
-use Rattle.items.specs.Trees.{bytes, unsigned, map, no_entries, head_of, map_size, encoding, entries_encoding}
+use Rattle.items.specs.Trees.{bytes, map, no_entries, head_of, encoding, entries_encoding}
 use Rattle.message.specs.declared.types.View.{View}
 use Rattle.message.specs.Checks.{transcript_of}
 use Rattle.message.specs.Sizes.{before_signature, behind_signature}

@@ -1,15 +1,13 @@
 -- Fields that a message may have, part by part.
-use Rattle.std.proofs.Common.{◌≡◌, ℕ, suc, ◌+◌, ◌^◌, ◌<◌, ◌≤◌, List, length, Some, None, Option, sym, refl, ap, ◌∙◌, subst, arith}
+use Rattle.std.proofs.Common.{◌≡◌, ℕ, suc, ◌+◌, ◌^◌, ◌<◌, ◌≤◌, List, length, Some, None, Option, refl, arith}
 use Rattle.items.specs.Reading.{containers}
-use Rattle.items.specs.Trees.{Item, unsigned, bytes, map, Entries, no_entries, next-entry, map_size, encoding, Within, EntriesWithin, Canonical, value_of}
+use Rattle.items.specs.Trees.{Item, unsigned, bytes, map, Entries, no_entries, Within, EntriesWithin, Canonical}
 use Rattle.items_laws.specs.Exact.{Fits}
 use Rattle.items_laws.proofs.Inner.{within_more, value-canonical}
-use Rattle.message.specs.Fields.{Fields, entry, optionally, mid_tree, cmd_tree, auth_tree, meta_tree, message_tree, tree, AtMost, echo_in, Valid}
-use Rattle.message_laws.proofs.Ways.{IsAlg, Given, optionally-size, optionally-few}
-use Rattle.message_laws.proofs.Mids.{MidGood}
-use Rattle.message_laws.proofs.Cmds.{CmdGood, Short, EchoGood}
-use Rattle.message_laws.proofs.Auths.{AuthGood}
-use Rattle.message_laws.proofs.Views.{FieldsGood, MapGood, mid_of, cmd_of, auth_of}
+use Rattle.message.specs.Fields.{Fields, optionally, cmd_tree, meta_tree, message_tree, tree, AtMost, echo_in, Valid}
+use Rattle.message_laws.proofs.Ways.{Given, optionally-size, optionally-few}
+use Rattle.message_laws.proofs.Cmds.{Short, EchoGood}
+use Rattle.message_laws.proofs.Views.{FieldsGood, MapGood}
 
 at_most : (n : ℕ) (o : Option (List ℕ)) → AtMost n o → Given (λ bs. length bs ≤ n) o
 at_most n None h = tt

@@ -1,15 +1,14 @@
 -- A message is read exactly where fields are encoded.
-use Rattle.std.proofs.Common.{◌≡◌, ℕ, suc, ◌+◌, ◌^◌, ◌<◌, ◌≤◌, Bool, true, false, cond, ◌&&◌, eqb, List, ◌++◌, length, Some, None, Option, sym, refl, ap, ◌∙◌, subst, arith, length-append}
+use Rattle.std.proofs.Common.{◌≡◌, ℕ, suc, ◌+◌, ◌^◌, ◌<◌, ◌≤◌, true, ◌&&◌, eqb, List, ◌++◌, length, Some, None, Option, sym, refl, ap, ◌∙◌, subst, arith, length-append}
 use Rattle.std.proofs.lemmas.Bool.{and_parts}
 use Rattle.std.proofs.lemmas.Bool.Decides.{nat_tests}
 use Rattle.items.specs.declared.types.Span.{Span}
-use Rattle.items.specs.Fields.{bind, argument_at, key_at, map_at}
-use Rattle.items.specs.Trees.{Item, unsigned, bytes, map, Entries, no_entries, head_of, map_size, encoding, entries_encoding, Canonical, Runs}
+use Rattle.items.specs.Fields.{argument_at, key_at, map_at}
+use Rattle.items.specs.Trees.{unsigned, bytes, map, Entries, no_entries, head_of, map_size, encoding, entries_encoding, Canonical, Runs}
 use Rattle.items.proofs.Picks.{key-other}
 use Rattle.items_laws.specs.Laws.{Octets}
-use Rattle.items_laws.specs.Exact.{Spot}
 use Rattle.items_laws.proofs.Unique.{same-part, whole-at}
-use Rattle.items_laws.proofs.Runnings.{some_same, bound, cond-some, cut, runs_in, argument-back, argument-sound, key_back, key-sound, runs_join, map-exact, key-exact, unsigned-exact}
+use Rattle.items_laws.proofs.Runnings.{some_same, bound, cond-some, cut, runs_in, argument-back, argument-sound, key-sound, runs_join, map-exact, key-exact, unsigned-exact}
 use Rattle.message.specs.declared.types.Mid.{Mid}
 use Rattle.message.specs.declared.types.Cmd.{Cmd}
 use Rattle.message.specs.declared.types.Auth.{Auth}
@@ -17,12 +16,12 @@ use Rattle.message.specs.declared.types.Meta.{Meta}
 use Rattle.message.specs.declared.types.View.{View}
 use Rattle.message.specs.Entries.{map_of, next_key, optional}
 use Rattle.message.specs.Parts.{mid_at, cmd_at, auth_at, meta_at, body_at, view_of}
-use Rattle.message.specs.Fields.{Fields, optionally, meta_tree, message_tree, tree}
-use Rattle.message_laws.proofs.Ways.{Parses, parses, map-sound, map_back, Given, optional-sound, optional-back, Took, Opt, optionally-on, optionally-size, optionally-few, no_key}
+use Rattle.message.specs.Fields.{Fields, optionally, meta_tree, tree}
+use Rattle.message_laws.proofs.Ways.{parses, map-sound, map_back, Given, optional-sound, optional-back, optionally-on, optionally-size, optionally-few, no_key}
 use Rattle.message_laws.proofs.Mids.{MidFields, mid_item, MidGood, MidSees, mid-parses}
 use Rattle.message_laws.proofs.Cmds.{CmdFields, cmd_item, CmdGood, CmdSees, cmd-parses, EchoGood, meta-parses}
 use Rattle.message_laws.proofs.Auths.{AuthFields, auth_item, AuthGood, AuthSees, auth-sound, auth-back, bare, front, signed}
-use Rattle.message_laws.specs.Shows.{Both, MapSpot, MetaShows, Shows}
+use Rattle.message_laws.specs.Shows.{MapSpot, MetaShows, Shows}
 
 -- the fields of each part
 abbrev pub mid_of : Fields → MidFields

@@ -1,17 +1,16 @@
 -- Single entries are read exactly where they are encoded.
-use Rattle.std.proofs.Common.{◌≡◌, ℕ, suc, ◌+◌, ◌-◌, ◌^◌, ◌<◌, ◌≤◌, Bool, true, false, cond, ◌&&◌, eqb, leb, List, [], ◌++◌, length, Some, None, Option, sym, refl, ap, ◌∙◌, subst, append_assoc, append-nil, arith}
+use Rattle.std.proofs.Common.{◌≡◌, ℕ, suc, ◌+◌, ◌-◌, ◌^◌, ◌<◌, ◌≤◌, Bool, true, false, cond, ◌&&◌, eqb, leb, List, ◌++◌, length, Some, None, Option, sym, refl, ap, ◌∙◌, subst, append_assoc, append-nil, arith}
 use Rattle.std.proofs.lemmas.Bool.Decides.{nat_tests}
-use Rattle.std.proofs.lemmas.Bool.{and_parts}
 use Rattle.items.specs.declared.types.Span.{Span}
 use Rattle.items.specs.Heads.{part}
 use Rattle.items.specs.Fields.{bind, argument_at, key_at, string_at}
-use Rattle.items.specs.Trees.{Item, unsigned, bytes, Entries, no_entries, next-entry, head_of, map_size, encoding, entries_encoding, At, Runs}
+use Rattle.items.specs.Trees.{Item, unsigned, bytes, Entries, no_entries, head_of, map_size, encoding, entries_encoding, Runs}
 use Rattle.items_laws.specs.Laws.{Octets}
 use Rattle.items_laws.specs.Exact.{Exact, Spot, Same}
 use Rattle.items_laws.proofs.Written.{at_part}
-use Rattle.items_laws.proofs.Runnings.{none-some, some_same, bound, cond-some, cut, runs-nothing, runs_in, argument-back, argument-sound, key_back, key-sound, runs_join, bytes-exact}
+use Rattle.items_laws.proofs.Runnings.{some_same, bound, cond-some, cut, runs-nothing, runs_in, argument-back, argument-sound, key_back, key-sound, runs_join, bytes-exact}
 use Rattle.message.specs.Entries.{map_of, id_at, alg_at, context_at, next_key, chosen, optional, ended}
-use Rattle.message.specs.Fields.{entry, optionally}
+use Rattle.message.specs.Fields.{optionally}
 use Rattle.message.proofs.Bounds.{id_some}
 use Rattle.message_laws.specs.Shows.{Both}
 

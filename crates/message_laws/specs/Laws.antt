@@ -1,5 +1,5 @@
 -- What reading a message means for the fields that its octets encode.
-use Rattle.std.specs.Prelude.{◌≡◌, ℕ, Bool, List, Ok, Err, Result, ◌≢◌}
+use Rattle.std.specs.Prelude.{◌≡◌, ℕ, List, Ok, ◌≢◌}
 use Rattle.items.specs.Trees.{encoding}
 use Rattle.message.specs.declared.types.View.{View}
 use Rattle.message.specs.Fields.{Fields, tree, Valid}

@@ -1,5 +1,6 @@
 // The program: a demonstration, a day as an example, scripts of calls, and commands on files.
 #![tactic(auto)]
+
 mod arguments;
 mod day;
 mod demonstration;

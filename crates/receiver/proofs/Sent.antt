@@ -1,19 +1,15 @@
 -- Released frames are the writer's, and the writer's bursts are judged by their messages.
-use Rattle.std.proofs.Common.{◌≡◌, ℕ, ◌+◌, ◌-◌, ◌*◌, ◌≤◌, Bool, true, false, cond, leb, List, ◌++◌, length, take, Some, None, Ok, Err, Option, Result, sym, refl, ap, ◌∙◌, subst, arith, length-append}
+use Rattle.std.proofs.Common.{◌≡◌, ℕ, ◌+◌, ◌-◌, ◌*◌, Bool, true, false, cond, leb, List, ◌++◌, length, take, Some, None, Ok, Option, sym, refl, ap, ◌∙◌, subst, arith, length-append}
 use lib.Seq.{take-append_seam}
 use Rattle.std.proofs.lemmas.Bool.{le-leb, and_from, cond-true}
 use Rattle.answers.specs.declared.refusal.Refusal.{Refusal}
-use Rattle.answers.specs.declared.refusal.Refusal.TheVariants.{WorkTooShort, OutOfBounds}
-use Rattle.answers.specs.Questions.{Question, Questions, otherwise, ◌⨟◌, ask, found, first}
+use Rattle.answers.specs.Questions.{Questions, otherwise, ◌⨟◌, found, first}
 use Rattle.line.specs.Bits.{bits_in}
-use Rattle.line.specs.Burst.{frame, octet_count, body_of}
+use Rattle.line.specs.Burst.{frame, body_of}
 use Rattle.line.specs.Fcs.{tail}
-use Rattle.line.specs.Flags.{between}
-use Rattle.line.specs.declared.heard.Heard.{Heard}
 use Rattle.line.specs.declared.heard.Hearing.{Hearing}
 use Rattle.line.specs.declared.heard.Hearing.TheVariants as hearing
-use Rattle.line.specs.Hearing.{Outcome, admission, in_bounds, work_octets, hears, hears_line, line_questions}
-use Rattle.line_laws.specs.Passing.{Sent}
+use Rattle.line.specs.Hearing.{Outcome, admission, in_bounds, work_octets, hears_line, line_questions}
 use Rattle.line_laws.specs.Returning.{heard_back}
 use Rattle.line_laws.proofs.Passed.{passed-is-sent}
 use Rattle.line_laws.proofs.Returned.{sent-is-heard}

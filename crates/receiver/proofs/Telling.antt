@@ -1,5 +1,5 @@
 -- A run, call by call.
-use Rattle.std.proofs.Common.{◌≡◌, ℕ, ◌+◌, ◌-◌, ◌<◌, ◌≤◌, min, Bool, List, [], ◌∷◌, ◌++◌, length, get_or, take, drop, set, sym, refl, ap, ◌∙◌, subst, arith, Bor}
+use Rattle.std.proofs.Common.{◌≡◌, ℕ, ◌+◌, ◌-◌, ◌<◌, min, Bool, List, [], ◌∷◌, ◌++◌, length, get_or, take, drop, set, sym, refl, ap, ◌∙◌, subst, arith, Bor}
 use Rattle.std.proofs.lemmas.List.{take_more, take_more_set, drop-drop, drop-set-lt}
 use Rattle.marks.specs.State.{State}
 use Rattle.judging.specs.declared.answer.Listening.{Listening}
@@ -12,7 +12,7 @@ use Rattle.line.specs.Hearing.{laid}
 use Rattle.judging.specs.Frames.{message_heard}
 use Rattle.judging.specs.Effects.{StoreMoves, left_at}
 use Rattle.receiver.specs.History.{Listens, History, made, listened, switched}
-use Rattle.receiver.specs.Run.{inputs_of, ListenDone, SwitchDone, Carries, Tells, nothing, heard, on, LawfulRun, Ran}
+use Rattle.receiver.specs.Run.{inputs_of, Carries, Tells, nothing, heard, on, Ran}
 use Rattle.receiver.proofs.Law.{law}
 
 module _ {S V : Type 0} (state : S → State) (touches rests : S → S → Type 0) (known : V → List ℕ → ℕ → Bool) (good : V → List ℕ → ℕ → List ℕ → List ℕ → Bool) where

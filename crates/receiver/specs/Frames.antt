@@ -1,5 +1,5 @@
 -- Released frames and the writer's.
-use Rattle.std.specs.Prelude.{◌≡◌, ℕ, ◌-◌, ◌≤◌, Bool, true, List, length}
+use Rattle.std.specs.Prelude.{◌≡◌, ℕ, ◌-◌, ◌≤◌, true, List, length}
 use Rattle.answers.specs.Questions.{first}
 use Rattle.line.specs.Bits.{bits_in}
 use Rattle.line.specs.Flags.{between, FirstAt, OpensAt}
@@ -10,7 +10,6 @@ use Rattle.marks.specs.State.{State}
 use Rattle.judging.specs.declared.answer.Release.{Release}
 use Rattle.judging.specs.declared.answer.Verdict.{Verdict}
 use Rattle.judging.specs.declared.answer.Verdict.TheVariants.{Quiet, Duplicate, Refused, Released}
-use Rattle.judging.specs.declared.answer.Answer.{Answer}
 use Rattle.judging.specs.Inputs.{Inputs, Conditions}
 use Rattle.judging.specs.Frames.{message_heard}
 use Rattle.judging.specs.Questions.{questions}

@@ -1,5 +1,5 @@
 -- The questions that do not ask the store for mark, room or charge.
-use Rattle.std.specs.Prelude.{ℕ, Bool, true, false, ◌&&◌, ◌||◌, ◌==◌}
+use Rattle.std.specs.Prelude.{Bool, true, false, ◌&&◌, ◌||◌, ◌==◌}
 use Rattle.answers.specs.Refusals.{number_of}
 use Rattle.answers.specs.Questions.{Questions, otherwise, ◌⨟◌}
 use Rattle.judging.specs.declared.answer.Verdict.{Verdict}

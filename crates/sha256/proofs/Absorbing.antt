@@ -1,6 +1,6 @@
 -- What a hash has seen, one block, one octet and the padding on.
-use Rattle.std.proofs.Common.{◌≡◌, ℕ, zero, suc, ◌+◌, ◌-◌, ◌*◌, ◌/◌, ◌%◌, ◌^◌, ◌<◌, ◌≤◌, List, [], ◌∷◌, ◌++◌, length, get_or, take, drop, set, replicate, sym, refl, ap, ◌∙◌, add-one, arith, take-add}
-use Rattle.std.proofs.lemmas.List.{length-append, length-take-le, length-drop, length_push, length-replicate, length-set, drop-append-le, take-append-le, take-replicate, drop_at, take_all, drop_all, append_assoc}
+use Rattle.std.proofs.Common.{◌≡◌, ℕ, zero, suc, ◌+◌, ◌-◌, ◌*◌, ◌/◌, ◌%◌, ◌^◌, ◌<◌, ◌≤◌, List, [], ◌∷◌, ◌++◌, length, take, drop, set, replicate, sym, refl, ap, ◌∙◌, add-one, arith, take-add}
+use Rattle.std.proofs.lemmas.List.{length-append, length-take-le, length-drop, length-replicate, drop-append-le, take-append-le, take-replicate, drop_at, take_all, drop_all, append_assoc}
 use Rattle.std.proofs.lemmas.Slice.{take-put_mid}
 use borrow.Rule.Slice.PartMut.{mid_of, put_mid, same_len_mid}
 use Rattle.std.proofs.lemmas.Nat.{mod-pow-add, field_of}

@@ -1,5 +1,5 @@
 -- The choice between two words, bit by bit, with one operation less.
-use Rattle.std.proofs.Common.{◌≡◌, ℕ, zero, suc, ◌+◌, ◌-◌, ◌*◌, ◌/◌, ◌%◌, ◌^◌, ◌<◌, sym, refl, ap, ◌∙◌, arith}
+use Rattle.std.proofs.Common.{◌≡◌, ℕ, zero, suc, ◌-◌, ◌*◌, ◌/◌, ◌%◌, ◌^◌, ◌<◌, sym, refl, ap, ◌∙◌, arith}
 use lib.Bits.{bit_and, bit_xor, xor_shr, xor_mod}
 use Rattle.std.proofs.lemmas.Nat.{and_shr, and_mod, pow-add}
 use Rattle.sha256.specs.Sha256.{Ch, complement}

@@ -1,5 +1,5 @@
 -- The length field read back, and the digest's length.
-use Rattle.std.proofs.Common.{◌≡◌, ℕ, ◌+◌, ◌*◌, ◌/◌, ◌%◌, ◌^◌, ◌<◌, List, length, fold, refl, arith}
+use Rattle.std.proofs.Common.{◌≡◌, ℕ, ◌+◌, ◌*◌, ◌^◌, ◌<◌, List, length, fold, refl, arith}
 use Rattle.std.proofs.lemmas.Nat.{shr-shr}
 use Rattle.sha256.specs.declared.words.Words.{Words}
 use Rattle.sha256.specs.Sha256.{octets_of64, octets_of32, octets_of_words, digest_octets}

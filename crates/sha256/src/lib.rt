@@ -1,5 +1,6 @@
 // SHA-256, by FIPS 180-4.
 #![tactic(auto)]
+
 mod rounds;
 mod schedule;
 mod state;

@@ -1,5 +1,6 @@
 // Test vectors of SHA-256: each digest is computed by the code, and proved to be the published one.
 #![tactic(auto)]
+
 ghost use Rattle.std.specs.Prelude.{◌≡◌};
 ghost use Rattle.sha256_vectors.specs.Vectors.{abc_digest, empty_digest, two_blocks_digest};
 

@@ -1,5 +1,6 @@
 // Whether octets are UTF-8 text (RFC 3629).
 #![tactic(auto)]
+
 ghost use Rattle.std.specs.Prelude.{◌≡◌};
 ghost use Rattle.text.specs.Laws.{TextIsUtf8};
 ghost use Rattle.text.specs.Table.{is_text, tails, low, high};

@@ -1,6 +1,5 @@
 -- Digits and the octets that they spell.
-use Rattle.std.proofs.Common.{◌≡◌, ℕ, zero, suc, ◌+◌, ◌*◌, ◌/◌, ◌%◌, ◌<◌, ◌≤◌, ◌⊎◌, List, [], ◌∷◌, ◌++◌, length, get_or, take, Some, None, Option, unwrap_or, sym, refl, ap, ◌∙◌, subst, inl, inr, arith, rules, below_more}
-use Rattle.std.specs.List.{flat_map}
+use Rattle.std.proofs.Common.{◌≡◌, ℕ, zero, suc, ◌+◌, ◌*◌, ◌/◌, ◌%◌, ◌<◌, ◌≤◌, List, [], ◌∷◌, ◌++◌, length, get_or, take, Some, unwrap_or, sym, refl, ap, ◌∙◌, subst, inl, inr, arith, rules, below_more}
 use Rattle.std.proofs.lemmas.List.{ext_get_or, get_or_append_left, get_or_push, append_assoc, flat_map_more, take_more, take_all}
 use Rattle.words.specs.Hex.{octet_of, hex_of, hex_text, word_of, digit_of, dash, SpeltTo, Spells, Names, Octets, HexBack, OctetBack}
 

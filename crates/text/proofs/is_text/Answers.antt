@@ -1,7 +1,7 @@
-use Rattle.std.proofs.Common.{◌≡◌, ◌-◌, ◌<◌, get_or, drop, sym, refl, ap, ◌∙◌, ⊎_elim, arith}
+use Rattle.std.proofs.Common.{◌<◌, get_or, sym, refl, ◌∙◌, ⊎_elim, arith}
 use Rattle.std.proofs.lemmas.Bool.Decides.{nat_tests}
-use Rattle.text.specs.Table.{tails, text_after, is_text}
-use Rattle.text.proofs.Steps.{any, done, first_bad, first_on, ascii_on, tail-low, tail-high, tail-on, state}
+use Rattle.text.specs.Table.{tails}
+use Rattle.text.proofs.Steps.{done, first_bad, first_on, ascii_on, tail-low, tail-high, tail-on, state}
 use Rattle.text.proofs.Agrees.{text-is_utf8}
 use Rattle.text.proofs.is_text.Goals as goal
 use Rattle.text.proofs.is_text.Goals.{then-due-eq0+then-octet-ge128+else-due-eq-NO_CHARACTER, then-due-eq0+else-octet-ge128, else-due-eq0+else-octet-least+else-octet-most}

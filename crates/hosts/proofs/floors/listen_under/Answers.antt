@@ -1,4 +1,4 @@
-use Rattle.std.proofs.Common.{◌≡◌, sym, refl, ap, ◌∙◌}
+use Rattle.std.proofs.Common.{◌≡◌, sym, ◌∙◌}
 use Rattle.hosts.proofs.Floored.{moved, goes_at, floor-at, moves_at}
 use Rattle.hosts.proofs.floors.listen_under.Goals as goal
 

@@ -1,6 +1,6 @@
-use Rattle.std.proofs.Common.{◌≡◌, length, sym, refl, ap, ◌∙◌}
+use Rattle.std.proofs.Common.{length, sym, ap, ◌∙◌}
 use Rattle.judging.specs.Inputs.{inputs_by}
-use Rattle.hosts.proofs.Imaged.{supply-at, supply_in, left, listened-at}
+use Rattle.hosts.proofs.Imaged.{supply-at, left, listened-at}
 use Rattle.hosts.proofs.images.listen_on.Goals as goal
 
 pub returns : goal.returns

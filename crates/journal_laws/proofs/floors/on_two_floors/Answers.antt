@@ -1,4 +1,4 @@
-use Rattle.std.proofs.Common.{◌≡◌, ap, ◌∙◌}
+use Rattle.std.proofs.Common.{ap, ◌∙◌}
 use Rattle.journal_laws.proofs.Piling.{two_floors}
 use Rattle.journal_laws.proofs.floors.on_two_floors.Goals as goal
 

@@ -1,4 +1,4 @@
-use Rattle.std.proofs.Common.{◌≡◌, sym, refl, ap, ◌∙◌}
+use Rattle.std.proofs.Common.{sym, ap, ◌∙◌}
 use Rattle.journal_laws.proofs.Imaging.{kept, raised-image}
 use Rattle.journal_laws.proofs.images.raise_on.Goals as goal
 

@@ -1,7 +1,6 @@
-use Rattle.std.proofs.Common.{◌≡◌, ◌+◌, ◌*◌, ◌≤◌, ◌++◌, length, sym, refl, ap, ◌∙◌, arith}
-use Rattle.std.proofs.lemmas.List.{length-append}
+use Rattle.std.proofs.Common.{◌++◌, arith}
 use Rattle.line.specs.Bits.{bits_of}
-use Rattle.line.specs.Stuffing.{stuff, stuffed}
+use Rattle.line.specs.Stuffing.{stuffed}
 use Rattle.line.proofs.Counting.{counts_both, bits_most}
 use Rattle.line.proofs.Whole.{length-flagged}
 use Rattle.line.proofs.burst.frame_length.Goals as goal

@@ -1,4 +1,4 @@
-use Rattle.std.proofs.Common.{◌≡◌, ◌+◌, ◌*◌, ◌≤◌, ◌++◌, length, sym, refl, ap, ◌∙◌, arith}
+use Rattle.std.proofs.Common.{◌*◌, ◌≤◌, ◌++◌, length, ◌∙◌, arith}
 use Rattle.line.specs.Bits.{bits_of}
 use Rattle.line.specs.Burst.{flagged}
 use Rattle.line.specs.Stuffing.{stuffed}

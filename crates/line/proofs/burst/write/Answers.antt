@@ -1,4 +1,4 @@
-use Rattle.std.proofs.Common.{◌≡◌, ◌+◌, ◌*◌, ◌<◌, ◌≤◌, length, Ok, sym, refl, ap, ◌∙◌, subst, arith}
+use Rattle.std.proofs.Common.{◌<◌, ◌≤◌, length, Ok, sym, refl, ap, ◌∙◌, subst, arith}
 use Rattle.line.specs.Burst.{frame, octet_count, Written}
 use Rattle.line.proofs.Whole.{tail_of, frame_of, writing-short, writing-done}
 use Rattle.line.proofs.burst.write.Goals as goal

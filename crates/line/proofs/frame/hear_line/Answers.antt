@@ -1,10 +1,10 @@
-use Rattle.std.proofs.Common.{◌≡◌, ◌+◌, ◌-◌, ◌*◌, ◌<◌, ◌≤◌, false, length, take, drop, sym, refl, ap, ◌∙◌, subst, arith}
+use Rattle.std.proofs.Common.{◌≡◌, ◌+◌, ◌-◌, ◌<◌, length, take, drop, sym, ap, ◌∙◌, arith}
 use Rattle.std.proofs.lemmas.Bool.{or_parts, leb-false}
 use Rattle.answers.specs.declared.refusal.Refusal.TheVariants.{Framing}
 use Rattle.line.specs.Bits.{bits_in}
-use Rattle.line.specs.Flags.{first_flag, past_flags}
+use Rattle.line.specs.Flags.{past_flags}
 use Rattle.line.specs.Hearing.{checked, hears_line, quiet_at, refused_at, frame_at, Outcome}
-use Rattle.line.proofs.Answering.{Opened, opened-at, mapped_none, not_opened, no_body, heard-empty, heard-long, heard-unclosed, heard-broken, heard_misaligned, heard_bad, heard-frame, fits, no_front, frame-front}
+use Rattle.line.proofs.Answering.{opened-at, mapped_none, not_opened, no_body, heard-empty, heard-long, heard-unclosed, heard-broken, heard_misaligned, heard_bad, heard-frame, no_front, frame-front}
 use Rattle.line.proofs.Places.{length-heard}
 use Rattle.line.proofs.frame.hear_line.Goals as goal
 

@@ -1,8 +1,8 @@
-use Rattle.std.proofs.Common.{◌≡◌, ◌+◌, ◌-◌, ◌*◌, ◌<◌, ◌≤◌, [], ◌∷◌, ◌++◌, length, sym, refl, ap, ◌∙◌, subst, arith}
+use Rattle.std.proofs.Common.{◌≡◌, ◌+◌, ◌-◌, ◌*◌, ◌<◌, ◌≤◌, length, sym, refl, ap, ◌∙◌, subst, arith}
 use Rattle.std.specs.List.{AllByRecursion as All}
 use Rattle.std.proofs.ByRecursion.{All-from_get_or}
-use Rattle.line.proofs.Views.{view, view-next, next, sign}
-use Rattle.line.specs.declared.listener.Sign.TheVariants.{Nothing, Bit, Flag}
+use Rattle.line.proofs.Views.{view, view-next, sign}
+use Rattle.line.specs.declared.listener.Sign.TheVariants.{Bit, Flag}
 use Rattle.line.specs.Scanning.{closed_as}
 use Rattle.line.proofs.Bodies.{Scans, bits_held, opens, further, reopens, closes, too_long, ends-unclosed, ends, ends-empty}
 use Rattle.line.proofs.Listens.{packs, broken-same, not_a_bit}

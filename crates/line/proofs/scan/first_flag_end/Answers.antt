@@ -1,8 +1,7 @@
-use Rattle.std.proofs.Common.{◌≡◌, ◌+◌, ◌-◌, ◌≤◌, ◌∷◌, ◌++◌, length, Some, None, sym, refl, ap, ◌∙◌, subst, arith}
+use Rattle.std.proofs.Common.{◌≡◌, ◌+◌, ◌-◌, ◌≤◌, ◌∷◌, ◌++◌, length, Some, sym, ap, ◌∙◌, subst, arith}
 use Rattle.std.specs.Option.{option_map}
-use Rattle.line.specs.Bits.{heard}
 use Rattle.line.specs.Flags.{first_flag}
-use Rattle.line.proofs.Views.{view, view-next, next, sign}
+use Rattle.line.proofs.Views.{view, view-next, sign}
 use Rattle.line.specs.declared.listener.Sign.TheVariants.{Flag}
 use Rattle.line.proofs.Bodies.{on_from, nothing_left}
 use Rattle.line.proofs.Listens.{behind, Sound, sound-next, goes_on, grows, short, seven_seen, flag-place}

@@ -1,5 +1,5 @@
-use Rattle.std.proofs.Common.{◌≡◌, ◌^◌, ◌<◌, length, sym, ap, ◌∙◌, rules}
-use Rattle.marks.specs.Octets.{encoded, cell_of, Sized}
+use Rattle.std.proofs.Common.{◌≡◌, length, sym, ap, ◌∙◌, rules}
+use Rattle.marks.specs.Octets.{cell_of, Sized}
 use Rattle.marks.proofs.Images.{cell-encoded}
 use Rattle.marks.proofs.Filling.{filled, five}
 use Rattle.marks.proofs.codec.encode.Goals as goal

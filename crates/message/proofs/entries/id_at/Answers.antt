@@ -1,4 +1,4 @@
-use Rattle.std.proofs.Common.{◌≡◌, ℕ, ◌+◌, ◌-◌, ◌≤◌, Some, sym, ap, ◌∙◌, arith, rules}
+use Rattle.std.proofs.Common.{◌≡◌, ◌-◌, Some, sym, ap, ◌∙◌, arith, rules}
 use Rattle.items.specs.Heads.{part}
 use Rattle.message.specs.Entries.{id_at}
 use Rattle.message.proofs.Bounds.{string_lies, part-long, id_some}

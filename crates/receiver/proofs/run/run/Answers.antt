@@ -1,4 +1,4 @@
-use Rattle.std.proofs.Common.{◌≡◌, ◌<◌, length, refl, arith}
+use Rattle.std.proofs.Common.{◌≡◌, ◌<◌, length, arith}
 use Rattle.receiver.proofs.Telling.{none, step, all}
 use Rattle.receiver.proofs.run.run.Goals as goal
 

@@ -1,4 +1,3 @@
-use Rattle.std.proofs.Common.{refl}
 use Rattle.sha256.specs.Sha256.{big_sigma0, ROTR}
 use Rattle.sha256.proofs.rounds.big_sigma_0.Goals as goal
 

@@ -1,4 +1,3 @@
-use Rattle.std.proofs.Common.{refl}
 use Rattle.sha256.specs.Sha256.{sigma1, ROTR, SHR}
 use Rattle.sha256.proofs.rounds.small_sigma_1.Goals as goal
 

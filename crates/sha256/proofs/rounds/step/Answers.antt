@@ -1,4 +1,3 @@
-use Rattle.std.proofs.Common.{refl}
 use Rattle.sha256.specs.Sha256.{round, t1_of, t2_of, ◌⊞◌}
 use Rattle.sha256.proofs.rounds.step.Goals as goal
 

@@ -1,4 +1,4 @@
-use Rattle.std.proofs.Common.{◌≡◌, ◌*◌, [], ◌∷◌, length, take}
+use Rattle.std.proofs.Common.{◌≡◌, ◌*◌, length, take}
 use Rattle.sha256.specs.Sha256.{octets_of_words}
 use Rattle.sha256.proofs.stream.octets_of.Given as goal
 

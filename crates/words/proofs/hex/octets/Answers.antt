@@ -1,4 +1,4 @@
-use Rattle.std.proofs.Common.{◌≡◌, length, get_or, sym, ◌∙◌, subst, inl, inr, rules}
+use Rattle.std.proofs.Common.{◌≡◌, length, get_or, ◌∙◌, inl, rules}
 use Rattle.words.specs.Hex.{dash}
 use Rattle.words.proofs.Spelling.{dash_word, dash_names}
 use Rattle.words.proofs.hex.octets.Goals as goal

@@ -1,4 +1,4 @@
-use Rattle.std.proofs.Common.{◌≡◌, [], ◌∷◌, ◌++◌, string_bytes, sym, ap, ◌∙◌, subst, arith, rules}
+use Rattle.std.proofs.Common.{string_bytes, ◌∙◌, rules}
 use Rattle.words.proofs.Spelling.{digits_more, digits-whole}
 use Rattle.words.proofs.hex.push_digits.Goals as goal
 

@@ -1,4 +1,4 @@
-use Rattle.std.proofs.Common.{◌≡◌, ◌++◌, length, sym, ap, ◌∙◌, rules}
+use Rattle.std.proofs.Common.{◌≡◌, ◌++◌, length, ap, ◌∙◌, rules}
 use Rattle.words.specs.Hex.{dash, hex_text, word_of}
 use Rattle.words.proofs.Spelling.{hex_back, word_empty, word_full}
 use Rattle.words.proofs.hex.text.Goals as goal

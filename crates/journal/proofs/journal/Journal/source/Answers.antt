@@ -1,4 +1,4 @@
-use Rattle.std.proofs.Common.{◌≡◌, length, sym, refl, ap, ◌∙◌, arith}
+use Rattle.std.proofs.Common.{◌≡◌, length, refl, ap, ◌∙◌, arith}
 use Rattle.journal.specs.Journals.{source_to}
 use Rattle.journal.proofs.Sources.{source_taken, source_left, source_kept}
 use Rattle.journal.proofs.journal.Journal.source.Goals as goal

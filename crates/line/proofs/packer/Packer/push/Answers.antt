@@ -1,7 +1,7 @@
-use Rattle.std.proofs.Common.{◌≡◌, ℕ, ◌+◌, ◌*◌, ◌%◌, ◌^◌, ◌<◌, refl, arith}
+use Rattle.std.proofs.Common.{◌≡◌, ◌*◌, ◌%◌, ◌^◌, ◌<◌, refl, arith}
 use lib.Bits.{bit_or}
 use Rattle.std.proofs.ByRecursion.{All-set}
-use Rattle.line.proofs.Pack.{value, part-more, part_lt, held-part, held_whole, behind-set, part-fits}
+use Rattle.line.proofs.Pack.{part-more, part_lt, held-part, held_whole, behind-set, part-fits}
 use Rattle.line.proofs.packer.Packer.push.Goals as goal
 
 pub invariant_of-self : goal.invariant_of-self

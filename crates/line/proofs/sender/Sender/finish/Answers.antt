@@ -1,4 +1,4 @@
-use Rattle.std.proofs.Common.{◌≡◌, ◌+◌, ◌*◌, sym, refl, ◌∙◌, arith}
+use Rattle.std.proofs.Common.{refl, arith}
 use Rattle.line.proofs.Sending.{fills_none, fills_more, filled}
 use Rattle.line.proofs.sender.Sender.finish.Goals as goal
 

@@ -1,4 +1,4 @@
-use Rattle.std.proofs.Common.{◌≡◌, ◌≤◌, length, take, arith}
+use Rattle.std.proofs.Common.{◌≡◌, take, arith}
 use Rattle.std.proofs.lemmas.List.{take_all}
 use Rattle.line.specs.Bits.{bits_of}
 use Rattle.line.proofs.Sending.{stuffs_none, stuffs_more, bits_of_more}

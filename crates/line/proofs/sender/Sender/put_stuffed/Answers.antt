@@ -1,4 +1,4 @@
-use Rattle.std.proofs.Common.{◌≡◌, ◌-◌, false, [], ◌∷◌, sym, refl, ap, ◌∙◌}
+use Rattle.std.proofs.Common.{◌-◌, false, [], ◌∷◌, sym, ap, ◌∙◌}
 use Rattle.line.proofs.Sending.{sends_more, sends_left, sends_same, one-off, one_fifth, one_on}
 use Rattle.line.proofs.sender.Sender.put_stuffed.Goals as goal
 

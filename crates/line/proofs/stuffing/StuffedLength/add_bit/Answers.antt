@@ -1,4 +1,4 @@
-use Rattle.std.proofs.Common.{◌≡◌, length, sym, refl, ap, ◌∙◌, arith}
+use Rattle.std.proofs.Common.{length, sym, ap, arith}
 use Rattle.line.proofs.Sending.{one-off, one_fifth, one_on}
 use Rattle.line.proofs.stuffing.StuffedLength.add_bit.Goals as goal
 

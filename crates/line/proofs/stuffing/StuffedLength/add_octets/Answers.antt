@@ -1,4 +1,4 @@
-use Rattle.std.proofs.Common.{◌≡◌, ◌≤◌, length, take, arith}
+use Rattle.std.proofs.Common.{◌≡◌, take, arith}
 use Rattle.std.proofs.lemmas.List.{take_all, length-take-le}
 use Rattle.line.specs.Bits.{bits_of}
 use Rattle.line.proofs.Lengths.{length_bits_of}

@@ -1,4 +1,4 @@
-use Rattle.std.proofs.Common.{◌≡◌, ◌<◌, length, sym, refl, ap, arith, rules}
+use Rattle.std.proofs.Common.{◌<◌, length, sym, refl, ap, arith, rules}
 use Rattle.marks.specs.declared.mark.CutLeaves.TheVariants.{Old, New, Torn}
 use Rattle.marks.specs.declared.mark.Written.TheVariants.{Cut, Done}
 use Rattle.marks.specs.Device.{cells_cut}

@@ -1,4 +1,4 @@
-use Rattle.std.proofs.Common.{◌≡◌, ◌&&◌, leb, length, take, drop, ap, ◌∙◌}
+use Rattle.std.proofs.Common.{◌&&◌, leb, length, drop, ap, ◌∙◌}
 use Rattle.message.specs.Sizes.{strings_fit, sizes_fit}
 use Rattle.message.proofs.message.Message.sizes_fit.Goals as goal
 

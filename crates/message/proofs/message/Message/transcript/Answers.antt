@@ -1,4 +1,4 @@
-use Rattle.std.proofs.Common.{◌≡◌, ◌-◌, ◌∷◌, ◌++◌, take, drop, ap, ◌∙◌}
+use Rattle.std.proofs.Common.{◌-◌, ◌∷◌, ◌++◌, take, drop, ap, ◌∙◌}
 use Rattle.message.specs.Checks.{transcript_of}
 use Rattle.message.proofs.message.Message.transcript.Goals as goal
 

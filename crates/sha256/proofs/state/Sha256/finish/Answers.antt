@@ -1,4 +1,4 @@
-use Rattle.std.proofs.Common.{◌≡◌, ℕ, ◌-◌, ◌%◌, length, sym, refl, ap, ◌∙◌, arith}
+use Rattle.std.proofs.Common.{◌≡◌, ℕ, ◌-◌, ◌%◌, length, refl, ap, ◌∙◌, arith}
 use Rattle.sha256.specs.Sha256.{octets_of64}
 use Rattle.sha256.proofs.Absorbing.{tail-taken, tail-room, tail-long, finished}
 use Rattle.sha256.proofs.Exact.{digest_length}

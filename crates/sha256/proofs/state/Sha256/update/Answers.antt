@@ -1,4 +1,4 @@
-use Rattle.std.proofs.Common.{◌≡◌, take, sym, refl, ◌∙◌, arith}
+use Rattle.std.proofs.Common.{take, arith}
 use Rattle.std.proofs.lemmas.List.{take_all}
 use Rattle.sha256.proofs.Absorbing.{carry, stretch_more}
 use Rattle.sha256.proofs.state.Sha256.update.Goals as goal
