@@ -23,7 +23,11 @@ WORDS_OF_ANTT = {"use", "module", "where", "let", "in", "elim", "--", "mod", "un
 LIBRARY = {"length", "append", "take", "drop", "set", "map", "reverse", "replicate", "cond", "div", "mod", "mul", "add", "sub", "pow"}
 # Names that would fall together with a definition's.
 CHOSEN = {"fcs-of": "fcs_case", "heard-as": "heard_case", "octet-of": "octet_of_lem", "octets-of": "octets_of_lem", "track-item": "track_item_lem",
-          "closes_by": "closes_by_lem", "Heard-frame": "FrameIsHeard", "of-store": "of_store_lem"}
+          "closes_by": "closes_by_lem", "Heard-frame": "FrameIsHeard", "of-store": "of_store_lem",
+          # constructors and fields take no dash, though it would join two names
+          "on-floor": "floor_over", "is-text": "utf8"}
+PLAIN = {"sorted-is", "starts-long", "ends-long", "next-entry", "above-mark", "shows-number", "shows-octets", "shows-heartbeat", "shows-queue",
+         "shows-suggest", "shows-remove", "shows-state", "shows-seek", "shows-rate", "shows-next", "shows-previous", "shows-text", "shows-reserved"}
 # Parts of names that Rattle makes.
 MADE = {("in", "err"): "in_err", ("in", "ok"): "in_ok", ("in", "default"): "in_default", ("slice", "bounds"): "slice_bounds",
         ("offset", "bounds"): "offset_bounds", ("invariant", "of"): "invariant_of", ("nonzero", "div"): "nonzero_div",
@@ -86,6 +90,8 @@ def camel(word):
 def respelled(name, types, functions):
     if name in CHOSEN:
         return CHOSEN[name]
+    if name in PLAIN:
+        return name.replace("-", "_")
     if name in types:
         return camel(name) if "-" in name and name[0].isupper() else name
     parts = name.split("-")

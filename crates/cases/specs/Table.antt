@@ -40,11 +40,11 @@ pub data Case : Type 0 where
   -- these octets read as an item
   read_as : List ℕ → Result Reading Fault → Case
   -- with a mark at the first position, the second lies above it or not
-  above-mark : Position → Position → Bool → Case
+  above_mark : Position → Position → Bool → Case
   -- of cells that hold one pair's marks at these positions or are blank, a raise begins with this one, and torn there leaves this mark
   written_to : List (Option Position) → ℕ → Position → Case
   -- a floor over a mark
-  on-floor : ℕ → Position → Position → Case
+  floor_over : ℕ → Position → Position → Case
   -- a clock and an exp: not expired or not; not too far or not
   expires : ℕ → ℕ → Bool → Case
   reaches : ℕ → ℕ → Bool → Case
@@ -72,10 +72,10 @@ Holds (answered octets verdict) =
     (conditions : Conditions) (store : State) → store.on ≡ true
     → (first (questions (record { burst = octets; count = 8 * length octets; start = 0; work = work_octets; conditions = conditions }) store)).verdict ≡ verdict
 Holds (read_as octets result) = read_of octets ≡ result
-Holds (above-mark mark position is) = above (Some (mark_at mark)) position ≡ is
+Holds (above_mark mark position is) = above (Some (mark_at mark)) position ≡ is
 Holds (written_to cells place left) =
     (chosen (map cell cells) None ≡ Some place) × (mark_in (slice_set (map cell cells) place Torn) pair ≡ Some (mark_at left))
-Holds (on-floor epoch below mark) = floored epoch (Some (mark_at below)) ≡ Some (mark_at mark)
+Holds (floor_over epoch below mark) = floored epoch (Some (mark_at below)) ≡ Some (mark_at mark)
 Holds (expires clock exp current) = not_expired clock (Some exp) ≡ current
 Holds (reaches clock exp near) = not_too_far clock (Some exp) ≡ near
 
@@ -98,11 +98,11 @@ table =
     ∷ expires 131 100 false
     ∷ reaches 0 86400 true
     ∷ reaches 0 86401 false
-    ∷ above-mark (at 7 105) (at 7 106) true
-    ∷ above-mark (at 7 105) (at 8 0) true
-    ∷ above-mark (at 7 105) (at 7 104) false
+    ∷ above_mark (at 7 105) (at 7 106) true
+    ∷ above_mark (at 7 105) (at 8 0) true
+    ∷ above_mark (at 7 105) (at 7 104) false
     ∷ written_to (Some (at 7 1) ∷ Some (at 7 2) ∷ None ∷ []) 0 (at 7 2)
-    ∷ on-floor 9 (at 7 105) (at 9 0)
+    ∷ floor_over 9 (at 7 105) (at 9 0)
     ∷ answered (0x80 ∷ []) Quiet
     ∷ answered (0x80 ∷ 0xAA ∷ 0x80 ∷ []) (Refused FcsFail)
     ∷ answered (0x80 ∷ 0xAA ∷ 0xAA ∷ 0x80 ∷ []) (Refused CborParse)

@@ -1,7 +1,7 @@
 -- The arguments in the tree of a map.
 use Rattle.std.specs.Prelude.{ℕ, Bool, true, false, ◌&&◌, List, ℤ, pos, negsuc, Some, None, Option, Result, nat_lt}
 use Rattle.answers.specs.declared.refusal.Refusal.{Refusal}
-use Rattle.items.specs.Trees.{Item, unsigned, negative, bytes, text, array, map, simple_false, simple_true, simple_null, Entries, no_entries, next-entry, value_of}
+use Rattle.items.specs.Trees.{Item, unsigned, negative, bytes, text, array, map, simple_false, simple_true, simple_null, Entries, no_entries, next_entry, value_of}
 use Rattle.commands.specs.Arguments.{Source}
 use Rattle.commands.specs.Orders.{Order, order_in}
 
@@ -66,7 +66,7 @@ key_below (Some k) n = nat_lt k n
 -- every key of the map is one of the first n
 abbrev pub keys_below : ℕ → Entries → Bool
 keys_below n no_entries = true
-keys_below n (next-entry k v es) = key_below (unsigned_of k) n && keys_below n es
+keys_below n (next_entry k v es) = key_below (unsigned_of k) n && keys_below n es
 
 -- the arguments in a map
 abbrev pub arguments_of : Entries → Source Item Track (List ℕ)

@@ -5,7 +5,7 @@ use Rattle.std.proofs.lemmas.Bool.{and_parts, and_from, or_left, or_right, true�
 use Rattle.std.proofs.lemmas.Bool.Decides.{nat_tests}
 use Rattle.std.specs.Str.{bytes_eq}
 use Rattle.items.specs.Keys.{above, has, chain}
-use Rattle.items.specs.Trees.{Item, unsigned, negative, bytes, text, array, map, simple_false, simple_true, simple_null, Entries, no_entries, next-entry, map_size, encoding, ascending, entries_ascending, Canonical, is_unsigned, value_of}
+use Rattle.items.specs.Trees.{Item, unsigned, negative, bytes, text, array, map, simple_false, simple_true, simple_null, Entries, no_entries, next_entry, map_size, encoding, ascending, entries_ascending, Canonical, is_unsigned, value_of}
 use Rattle.items.proofs.Chains.{chain-new}
 use Rattle.commands.specs.Entries.{unsigned_of, key_below, keys_below}
 
@@ -22,16 +22,16 @@ found_below es (suc n) = found_below es n + one (value_of es n)
 -- how many entries have another key than the first n
 abbrev others : ℕ → Entries → ℕ
 others n no_entries = 0
-others n (next-entry k v es) = cond (key_below (unsigned_of k) n) 0 1 + others n es
+others n (next_entry k v es) = cond (key_below (unsigned_of k) n) 0 1 + others n es
 
 -- how many entries have the key n
 abbrev hits : ℕ → Entries → ℕ
 hits n no_entries = 0
-hits n (next-entry k v es) = cond (is_unsigned k n) 1 0 + hits n es
+hits n (next_entry k v es) = cond (is_unsigned k n) 1 0 + hits n es
 
 none_other : (n : ℕ) (es : Entries) → keys_below n es ≡ eqb (others n es) 0
 none_other n no_entries = refl
-none_other n (next-entry k v es) = by (key_below (unsigned_of k) n) (none_other n es)
+none_other n (next_entry k v es) = by (key_below (unsigned_of k) n) (none_other n es)
   where
     by : (b : Bool) → keys_below n es ≡ eqb (others n es) 0 → (b && keys_below n es) ≡ eqb (cond b 0 1 + others n es) 0
     by true e = grind (arith, nat_tests)
@@ -50,7 +50,7 @@ none_below simple_null = refl
 
 all_others : (es : Entries) → others 0 es ≡ map_size es
 all_others no_entries = refl
-all_others (next-entry k v es) = omega (arith, none_below k, all_others es)
+all_others (next_entry k v es) = omega (arith, none_below k, all_others es)
 
 one_fewer : (n : ℕ) (k : Item) → cond (key_below (unsigned_of k) n) 0 1 ≡ cond (key_below (unsigned_of k) (suc n)) 0 1 + cond (is_unsigned k n) 1 0
 one_fewer n (unsigned m) = grind (arith, nat_tests)
@@ -65,7 +65,7 @@ one_fewer n simple_null = refl
 
 fewer_others : (n : ℕ) (es : Entries) → others n es ≡ others (suc n) es + hits n es
 fewer_others n no_entries = refl
-fewer_others n (next-entry k v es) = omega (arith, one_fewer n k, fewer_others n es)
+fewer_others n (next_entry k v es) = omega (arith, one_fewer n k, fewer_others n es)
 
 key-is : (k : Item) (n : ℕ) → is_unsigned k n ≡ true → k ≡ unsigned n
 key-is (unsigned m) n e = let same : m ≡ n = grind (arith, nat_tests) in ap unsigned same
@@ -83,7 +83,7 @@ module _ (n : ℕ) where
   no_more : (es : Entries) (ks : List (List ℕ)) → chain ks ≡ true → has ks (encoding (unsigned n)) ≡ true → entries_ascending ks es ≡ true → hits n es ≡ 0
   unfolding ascending
   no_more no_entries ks c h up = refl
-  no_more (next-entry k v es) ks c h up =
+  no_more (next_entry k v es) ks c h up =
       let u₁ = and_parts (ascending k) _ up in
       let u₂ = and_parts (above ks (encoding k)) _ u₁.1 in
       let u₃ = and_parts (ascending v) _ u₂.1 in
@@ -97,7 +97,7 @@ module _ (n : ℕ) where
   one_hit : (es : Entries) (ks : List (List ℕ)) → chain ks ≡ true → entries_ascending ks es ≡ true → hits n es ≡ one (value_of es n)
   unfolding ascending
   one_hit no_entries ks c up = refl
-  one_hit (next-entry k v es) ks c up =
+  one_hit (next_entry k v es) ks c up =
       let u₁ = and_parts (ascending k) _ up in
       let u₂ = and_parts (above ks (encoding k)) _ u₁.1 in
       let u₃ = and_parts (ascending v) _ u₂.1 in

@@ -19,7 +19,7 @@ use Rattle.commands.specs.Arguments.{perhaps, number_in, between_in, signed_in, 
 use Rattle.commands.specs.Orders.{given}
 use Rattle.commands.specs.Octets.{field, either_track, sized, arguments_at}
 use Rattle.commands.specs.Entries.{Track, unsigned_of, integer_of, track_of, text_of, keys_below, arguments_of}
-use Rattle.commands_laws.specs.Laws.{ShowsTrack, shows-number, shows-octets}
+use Rattle.commands_laws.specs.Laws.{ShowsTrack, shows_number, shows_octets}
 use Rattle.commands_laws.proofs.Counting.{one, found_below, no_others}
 
 -- both are there, and related, or neither is
@@ -97,12 +97,12 @@ module _ (os : List ℕ) (q : ℕ) where
 
   track-same : (v : Item) → Within v containers → At os q (encoding v) → Both (ShowsTrack os) (either_track (argument_at 0 os q) (string_at 2 os q)) (track_of v)
   unfolding Within
-  track-same (unsigned n) fits a = subst (λ x. Both (ShowsTrack os) (either_track x (string_at 2 os q)) (track_of (unsigned n))) (sym (head-is (unsigned n) fits a 0)) (shows-number n)
+  track-same (unsigned n) fits a = subst (λ x. Both (ShowsTrack os) (either_track x (string_at 2 os q)) (track_of (unsigned n))) (sym (head-is (unsigned n) fits a 0)) (shows_number n)
   track-same (negative n) fits a = track-none _ (no_track (head-is (negative n) fits a 0) (head-is (negative n) fits a 2))
   track-same (bytes bs) fits a =
       let b = bytes-exact.back os q bs (q + length (encoding (bytes bs))) fits (record { at = a; on = refl }) in
       let e : either_track (argument_at 0 os q) (string_at 2 os q) ≡ either_track None (Some (b.0, q + length (encoding (bytes bs)))) = (λ i. either_track (head-is (bytes bs) fits a 0 i) (b.1 i)) in
-      subst (λ x. Both (ShowsTrack os) x (track_of (bytes bs))) (sym e) (shows-octets b.0 bs b.2)
+      subst (λ x. Both (ShowsTrack os) x (track_of (bytes bs))) (sym e) (shows_octets b.0 bs b.2)
   track-same (text bs) fits a = track-none _ (no_track (head-is (text bs) fits a 0) (head-is (text bs) fits a 2))
   track-same (array ts) fits a = track-none _ (no_track (head-is (array ts) fits a 0) (head-is (array ts) fits a 2))
   track-same (map es) fits a = track-none _ (no_track (head-is (map es) fits a 0) (head-is (map es) fits a 2))

@@ -9,7 +9,7 @@ use Rattle.commands.specs.declared.types.Request.{Request}
 use Rattle.commands.specs.Orders.{Order, next, previous, reserved, given, in_order, closing, heartbeat_in, queue_in, suggest_in, remove_in, state_in, seek_in, rate_in, text_order_in, listed, order_in}
 use Rattle.commands.specs.Octets.{arguments_at, request_of, answered, request_at}
 use Rattle.commands.specs.Entries.{Track, arguments_of, order_of}
-use Rattle.commands_laws.specs.Laws.{Shows, shows-heartbeat, shows-queue, shows-suggest, shows-remove, shows-state, shows-seek, shows-rate, shows-next, shows-previous, shows-text, shows-reserved, Answers, AnswersOrder}
+use Rattle.commands_laws.specs.Laws.{Shows, shows_heartbeat, shows_queue, shows_suggest, shows_remove, shows_state, shows_seek, shows_rate, shows_next, shows_previous, shows_text, shows_reserved, Answers, AnswersOrder}
 use Rattle.commands_laws.proofs.Leaves.{Both, number_same, between-same, signed_same, optional-same, tracks, texts, only_same, number-found, between-found, signed-found, optional-found, track-found, text-found}
 
 abbrev Read : Type 0
@@ -65,7 +65,7 @@ module _ (os : List ℕ) where
 
     heartbeats : Match (heartbeat_in (arguments_at os p)) (heartbeat_in (arguments_of es))
     heartbeats = go_same _ _ _ _ (optional-same os p es good a 0) (λ time e₀.
-        last _ _ _ _ (only_same os p es good a 1 (given time) (omega (arith, optional-found es 0 time e₀))) (shows-heartbeat time))
+        last _ _ _ _ (only_same os p es good a 1 (given time) (omega (arith, optional-found es 0 time e₀))) (shows_heartbeat time))
 
     queues : Match (queue_in (arguments_at os p)) (queue_in (arguments_of es))
     queues = go_both _ _ _ _ _ (tracks os p es good a 0) (λ t u shows e₀.
@@ -73,30 +73,30 @@ module _ (os : List ℕ) where
         go_same _ _ _ _ (optional-same os p es good a 2) (λ earliest e₂.
         go_same _ _ _ _ (optional-same os p es good a 3) (λ latest e₃.
         provided (in_order earliest latest) _ _
-        (last _ _ _ _ (only_same os p es good a 4 (2 + given earliest + given latest) (omega (arith, track-found es 0 u e₀, signed-found es 1 10 z e₁, optional-found es 2 earliest e₂, optional-found es 3 latest e₃))) (shows-queue t u shows z earliest latest))))))
+        (last _ _ _ _ (only_same os p es good a 4 (2 + given earliest + given latest) (omega (arith, track-found es 0 u e₀, signed-found es 1 10 z e₁, optional-found es 2 earliest e₂, optional-found es 3 latest e₃))) (shows_queue t u shows z earliest latest))))))
 
     suggests : Match (suggest_in (arguments_at os p)) (suggest_in (arguments_of es))
     suggests = go_both _ _ _ _ _ (tracks os p es good a 0) (λ t u shows e₀.
         go_same _ _ _ _ (signed_same os p es good a 1 5 (omega arith)) (λ z e₁.
-        last _ _ _ _ (only_same os p es good a 2 2 (omega (arith, track-found es 0 u e₀, signed-found es 1 5 z e₁))) (shows-suggest t u shows z)))
+        last _ _ _ _ (only_same os p es good a 2 2 (omega (arith, track-found es 0 u e₀, signed-found es 1 5 z e₁))) (shows_suggest t u shows z)))
 
     removes : Match (remove_in (arguments_at os p)) (remove_in (arguments_of es))
-    removes = go_same _ _ _ _ (number_same os p es good a 0) (λ n e₀. last _ _ _ _ (only_same os p es good a 1 1 (omega (arith, number-found es 0 n e₀))) (shows-remove n))
+    removes = go_same _ _ _ _ (number_same os p es good a 0) (λ n e₀. last _ _ _ _ (only_same os p es good a 1 1 (omega (arith, number-found es 0 n e₀))) (shows_remove n))
 
     states : Match (state_in (arguments_at os p)) (state_in (arguments_of es))
-    states = go_same _ _ _ _ (between-same os p es good a 0 0 2) (λ n e₀. last _ _ _ _ (only_same os p es good a 1 1 (omega (arith, between-found es 0 0 2 n e₀))) (shows-state n))
+    states = go_same _ _ _ _ (between-same os p es good a 0 0 2) (λ n e₀. last _ _ _ _ (only_same os p es good a 1 1 (omega (arith, between-found es 0 0 2 n e₀))) (shows_state n))
 
     seeks : Match (seek_in (arguments_at os p)) (seek_in (arguments_of es))
-    seeks = go_same _ _ _ _ (signed_same os p es good a 0 60000 (omega arith)) (λ z e₀. last _ _ _ _ (only_same os p es good a 1 1 (omega (arith, signed-found es 0 60000 z e₀))) (shows-seek z))
+    seeks = go_same _ _ _ _ (signed_same os p es good a 0 60000 (omega arith)) (λ z e₀. last _ _ _ _ (only_same os p es good a 1 1 (omega (arith, signed-found es 0 60000 z e₀))) (shows_seek z))
 
     rates : Match (rate_in (arguments_at os p)) (rate_in (arguments_of es))
-    rates = go_same _ _ _ _ (between-same os p es good a 0 50 200) (λ n e₀. last _ _ _ _ (only_same os p es good a 1 1 (omega (arith, between-found es 0 50 200 n e₀))) (shows-rate n))
+    rates = go_same _ _ _ _ (between-same os p es good a 0 50 200) (λ n e₀. last _ _ _ _ (only_same os p es good a 1 1 (omega (arith, between-found es 0 50 200 n e₀))) (shows_rate n))
 
     text-orders : Match (text_order_in (arguments_at os p)) (text_order_in (arguments_of es))
     text-orders = go_same _ _ _ _ (between-same os p es good a 0 0 2) (λ target e₀.
         go_same _ _ _ _ (between-same os p es good a 1 0 2) (λ mode e₁.
         go_both _ _ _ _ _ (texts os p es good a 2) (λ s bs spot e₂.
-        last _ _ _ _ (only_same os p es good a 3 3 (omega (arith, between-found es 0 0 2 target e₀, between-found es 1 0 2 mode e₁, text-found es 2 bs e₂))) (shows-text target mode s bs spot))))
+        last _ _ _ _ (only_same os p es good a 3 3 (omega (arith, between-found es 0 0 2 target e₀, between-found es 1 0 2 mode e₁, text-found es 2 bs e₂))) (shows_text target mode s bs spot))))
 
     bares : (x : Read) (y : Meant) → Shows os (request_of x) y → Match (closing (arguments_at os p) 0 0 x) (closing (arguments_of es) 0 0 y)
     bares x y s = last _ _ _ _ (only_same os p es good a 0 0 refl) s
@@ -111,10 +111,10 @@ module _ (os : List ℕ) where
         (either (eqb kind 10) _ _ _ _ (replied _ _ states)
         (either (eqb kind 11) _ _ _ _ (replied _ _ seeks)
         (either (eqb kind 12) _ _ _ _ (replied _ _ rates)
-        (either (eqb kind 13) _ _ _ _ (replied _ _ (bares next next shows-next))
-        (either (eqb kind 14) _ _ _ _ (replied _ _ (bares previous previous shows-previous))
+        (either (eqb kind 13) _ _ _ _ (replied _ _ (bares next next shows_next))
+        (either (eqb kind 14) _ _ _ _ (replied _ _ (bares previous previous shows_previous))
         (either (eqb kind 20) _ _ _ _ (replied _ _ text-orders)
-        (either (eqb kind 30 || eqb kind 31) _ _ _ _ (request_of (reserved kind), refl, shows-reserved kind)
+        (either (eqb kind 30 || eqb kind 31) _ _ _ _ (request_of (reserved kind), refl, shows_reserved kind)
         refl))))))))))
 
   pub answers-order : (kind p : ℕ) (r : Result Request Refusal) → r ≡ request_at os kind p → AnswersOrder os kind p r

@@ -17,22 +17,22 @@ use Rattle.commands.specs.Entries.{order_of}
 
 -- the track that is read shows the track of the order: the same number, or where its octets stand
 pub data ShowsTrack (os : List ℕ) : Track → entries.Track → Type 0 where
-  shows-number : (n : ℕ) → ShowsTrack os (Number n) (entries.number n)
-  shows-octets : (s : Span) (bs : List ℕ) → Spot os s bs → ShowsTrack os (Octets s) (entries.octets bs)
+  shows_number : (n : ℕ) → ShowsTrack os (Number n) (entries.number n)
+  shows_octets : (s : Span) (bs : List ℕ) → Spot os s bs → ShowsTrack os (Octets s) (entries.octets bs)
 
 -- the request shows the order: the same numbers, and strings by where their octets stand
 pub data Shows (os : List ℕ) : Request → Order entries.Track (List ℕ) → Type 0 where
-  shows-heartbeat : (time : Option ℕ) → Shows os (Heartbeat time) (heartbeat time)
-  shows-queue : (track : Track) (ordered : entries.Track) → ShowsTrack os track ordered → (priority : ℤ) (earliest latest : Option ℕ) → Shows os (Queue track priority earliest latest) (queue ordered priority earliest latest)
-  shows-suggest : (track : Track) (ordered : entries.Track) → ShowsTrack os track ordered → (weight : ℤ) → Shows os (Suggest track weight) (suggest ordered weight)
-  shows-remove : (item : ℕ) → Shows os (Remove item) (remove item)
-  shows-state : (n : ℕ) → Shows os (State n) (state n)
-  shows-seek : (milliseconds : ℤ) → Shows os (Seek milliseconds) (seek milliseconds)
-  shows-rate : (percent : ℕ) → Shows os (Rate percent) (rate percent)
-  shows-next : Shows os Next next
-  shows-previous : Shows os Previous previous
-  shows-text : (target mode : ℕ) (s : Span) (bs : List ℕ) → Spot os s bs → Shows os (Text target mode s) (text target mode bs)
-  shows-reserved : (kind : ℕ) → Shows os (Reserved kind) (reserved kind)
+  shows_heartbeat : (time : Option ℕ) → Shows os (Heartbeat time) (heartbeat time)
+  shows_queue : (track : Track) (ordered : entries.Track) → ShowsTrack os track ordered → (priority : ℤ) (earliest latest : Option ℕ) → Shows os (Queue track priority earliest latest) (queue ordered priority earliest latest)
+  shows_suggest : (track : Track) (ordered : entries.Track) → ShowsTrack os track ordered → (weight : ℤ) → Shows os (Suggest track weight) (suggest ordered weight)
+  shows_remove : (item : ℕ) → Shows os (Remove item) (remove item)
+  shows_state : (n : ℕ) → Shows os (State n) (state n)
+  shows_seek : (milliseconds : ℤ) → Shows os (Seek milliseconds) (seek milliseconds)
+  shows_rate : (percent : ℕ) → Shows os (Rate percent) (rate percent)
+  shows_next : Shows os Next next
+  shows_previous : Shows os Previous previous
+  shows_text : (target mode : ℕ) (s : Span) (bs : List ℕ) → Spot os s bs → Shows os (Text target mode s) (text target mode bs)
+  shows_reserved : (kind : ℕ) → Shows os (Reserved kind) (reserved kind)
 
 -- what is answered to an order: a request that shows it, or its refusal
 abbrev pub Answers : List ℕ → Result (Order entries.Track (List ℕ)) Refusal → Result Request Refusal → Type 0

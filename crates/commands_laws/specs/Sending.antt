@@ -2,7 +2,7 @@
 use Rattle.std.specs.Prelude.{◌≡◌, ℕ, ◌≤◌, true, ◌⊎◌, List, Some, None, Ok, Option, Result, unsigned_abs}
 use Rattle.answers.specs.declared.refusal.Refusal.{Refusal}
 use Rattle.items.specs.Trees as trees
-use Rattle.items.specs.Trees.{Item, Entries, no_entries, next-entry, unsigned, bytes, map, encoding, Canonical, At}
+use Rattle.items.specs.Trees.{Item, Entries, no_entries, next_entry, unsigned, bytes, map, encoding, Canonical, At}
 use Rattle.items_laws.specs.Exact.{integer}
 use Rattle.commands.specs.declared.types.Request.{Request}
 use Rattle.commands.specs.Orders.{Order, heartbeat, queue, suggest, remove, state, seek, rate, next, previous, text, reserved, in_order}
@@ -30,7 +30,7 @@ track_item (octets bs) = bytes bs
 
 -- an argument under its key, before others
 abbrev pub entry : ℕ → Item → Entries → Entries
-entry key value es = next-entry (unsigned key) value es
+entry key value es = next_entry (unsigned key) value es
 
 -- one that may be absent
 abbrev pub optional_entry : ℕ → Option ℕ → Entries → Entries

@@ -101,13 +101,13 @@ module _ (os : List ℕ) (old : Keys) (kept : Kept os old) (room : old.count < 6
 
   pub held_new : (b : Bool) → held os (stored b) ≡ span os p q ∷ held os old
   unfolding held
-  held_new b = keys_add os old.starts old.ends old.count p q (omega (arith, kept.starts-long)) (omega (arith, kept.ends-long))
+  held_new b = keys_add os old.starts old.ends old.count p q (omega (arith, kept.starts_long)) (omega (arith, kept.ends_long))
 
   at_new : (i : ℕ) → i < old.count + 1 → (get_or (set old.starts old.count p) i 0 ≤ get_or (set old.ends old.count q) i 0) × (get_or (set old.ends old.count q) i 0 ≤ length os)
   at_new i l = ⊎_elim
       (λ z.
-      let a : get_or (set old.starts old.count p) i 0 ≡ p = ap (λ j. get_or (set old.starts old.count p) j 0) z.1 ∙ get_or-set_same old.starts old.count p 0 (omega (arith, kept.starts-long)) in
-      let b : get_or (set old.ends old.count q) i 0 ≡ q = ap (λ j. get_or (set old.ends old.count q) j 0) z.1 ∙ get_or-set_same old.ends old.count q 0 (omega (arith, kept.ends-long)) in
+      let a : get_or (set old.starts old.count p) i 0 ≡ p = ap (λ j. get_or (set old.starts old.count p) j 0) z.1 ∙ get_or-set_same old.starts old.count p 0 (omega (arith, kept.starts_long)) in
+      let b : get_or (set old.ends old.count q) i 0 ≡ q = ap (λ j. get_or (set old.ends old.count q) j 0) z.1 ∙ get_or-set_same old.ends old.count q 0 (omega (arith, kept.ends_long)) in
       (omega arith, omega arith))
       (λ z.
       let ne : i ≢ old.count = z.1 in
@@ -122,7 +122,7 @@ module _ (os : List ℕ) (old : Keys) (kept : Kept os old) (room : old.count < 6
     few = omega arith;
     ordered = λ i l. (at_new i l).0;
     within = λ i l. (at_new i l).1;
-    sorted-is = is ∙ ap (λ s. s && above (held os old) (span os p q)) kept.sorted-is ∙ ap chain (sym (held_new b));
-    starts-long = length-set old.starts old.count p ∙ kept.starts-long;
-    ends-long = length-set old.ends old.count q ∙ kept.ends-long;
+    sorted_is = is ∙ ap (λ s. s && above (held os old) (span os p q)) kept.sorted_is ∙ ap chain (sym (held_new b));
+    starts_long = length-set old.starts old.count p ∙ kept.starts_long;
+    ends_long = length-set old.ends old.count q ∙ kept.ends_long;
   }

@@ -18,9 +18,9 @@ pub record Kept (os : List ℕ) (k : Keys) : Type 0 where
   pub few : k.count ≤ map_entries
   pub ordered : (i : ℕ) → i < k.count → slice_index k.starts i ≤ slice_index k.ends i
   pub within : (i : ℕ) → i < k.count → slice_index k.ends i ≤ length os
-  pub sorted-is : k.sorted ≡ chain (held os k)
-  pub starts-long : length k.starts ≡ map_entries
-  pub ends-long : length k.ends ≡ map_entries
+  pub sorted_is : k.sorted ≡ chain (held os k)
+  pub starts_long : length k.starts ≡ map_entries
+  pub ends_long : length k.ends ≡ map_entries
 
 -- where a key was added, it is the newest
 abbrev pub Added : Option Bool → List ℕ → Keys → Keys → List ℕ → Type 0

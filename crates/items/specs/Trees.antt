@@ -25,7 +25,7 @@ mutual
   -- the keys of a map, each with its value
   pub data Entries : Type 0 where
     no_entries : Entries
-    next-entry : Item → Item → Entries → Entries
+    next_entry : Item → Item → Entries → Entries
 
 -- n in k octets, the most significant first
 abbrev pub octets_of : ℕ → ℕ → List ℕ
@@ -49,7 +49,7 @@ array_size (next_item t ts) = suc (array_size ts)
 -- how many entries a map has
 abbrev pub map_size : Entries → ℕ
 map_size no_entries = 0
-map_size (next-entry k v es) = suc (map_size es)
+map_size (next_entry k v es) = suc (map_size es)
 
 -- the octets of an item
 unfoldable mutual
@@ -70,7 +70,7 @@ unfoldable mutual
 
   pub entries_encoding : Entries → List ℕ
   entries_encoding no_entries = []
-  entries_encoding (next-entry k v es) = encoding k ++ (encoding v ++ entries_encoding es)
+  entries_encoding (next_entry k v es) = encoding k ++ (encoding v ++ entries_encoding es)
 
 -- how many items an item is in all, keys and containers counted
 unfoldable mutual
@@ -91,7 +91,7 @@ unfoldable mutual
 
   pub entries_total : Entries → ℕ
   entries_total no_entries = 0
-  entries_total (next-entry k v es) = total k + (total v + entries_total es)
+  entries_total (next_entry k v es) = total k + (total v + entries_total es)
 
 -- in each map each key's octets stand above the previous key's; ks are a map's keys so far, the newest first
 unfoldable mutual
@@ -112,7 +112,7 @@ unfoldable mutual
 
   pub entries_ascending : List (List ℕ) → Entries → Bool
   entries_ascending ks no_entries = true
-  entries_ascending ks (next-entry k v es) = ascending k && (above ks (encoding k) && (ascending v && entries_ascending (encoding k ∷ ks) es))
+  entries_ascending ks (next_entry k v es) = ascending k && (above ks (encoding k) && (ascending v && entries_ascending (encoding k ∷ ks) es))
 
 -- numbers of 64 bits, text in UTF-8, no array and no map too large, at most d containers around one another
 unfoldable mutual
@@ -133,7 +133,7 @@ unfoldable mutual
 
   pub EntriesWithin : Entries → ℕ → Type 0
   EntriesWithin no_entries d = Unit {0}
-  EntriesWithin (next-entry k v es) d = Within k d × Within v d × EntriesWithin es d
+  EntriesWithin (next_entry k v es) d = Within k d × Within v d × EntriesWithin es d
 
 -- a tree that a message may be: within the limits, with ascending keys
 pub record Canonical (t : Item) : Type 0 where
@@ -166,4 +166,4 @@ is_unsigned simple_null n = false
 -- the value of the first entry whose key is the unsigned number n
 abbrev pub value_of : Entries → ℕ → Option Item
 value_of no_entries n = None
-value_of (next-entry k v es) n = cond (is_unsigned k n) (Some v) (value_of es n)
+value_of (next_entry k v es) n = cond (is_unsigned k n) (Some v) (value_of es n)

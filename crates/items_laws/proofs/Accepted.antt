@@ -11,7 +11,7 @@ use Rattle.items.specs.declared.types.Head.{Head}
 use Rattle.items.specs.Keys.{span, above, has, judged}
 use Rattle.items.specs.Heads.{big_endian, width, least, long_head, head_from, head_at, head_size, fault_at, after, part, skipped, text_read}
 use Rattle.items.specs.Reading.{Walk, move_to, also, items_of, judged_key, entries_of, simple, body_of, inside, item_of, array_items, map_entries}
-use Rattle.items.specs.Trees.{octets_of, head_of, Item, unsigned, negative, bytes, text, array, map, simple_false, simple_true, simple_null, Items, no_items, next_item, Entries, no_entries, next-entry, array_size, map_size, encoding, items_encoding, entries_encoding, total, items_total, entries_total, ascending, items_ascending, entries_ascending, Within, ItemsWithin, EntriesWithin, At}
+use Rattle.items.specs.Trees.{octets_of, head_of, Item, unsigned, negative, bytes, text, array, map, simple_false, simple_true, simple_null, Items, no_items, next_item, Entries, no_entries, next_entry, array_size, map_size, encoding, items_encoding, entries_encoding, total, items_total, entries_total, ascending, items_ascending, entries_ascending, Within, ItemsWithin, EntriesWithin, At}
 use Rattle.items.proofs.Steps.{item_none, item_no_head, item_goes, body-number, body_bytes, body-text, body-array, body_map, body-simple, body-other, inside-none, key_from, skip_fits, skip_short, text-fits, text_bad, text-short}
 use Rattle.items_laws.proofs.Written.{length-octets}
 use Rattle.items_laws.proofs.Backs.{both_true, key-at}
@@ -242,7 +242,7 @@ module _ (os : List ℕ) (octet : (i : ℕ) → get_or os i 0 < 256) where
         let m = length-append (encoding t) (entries_encoding es) in
         let tail : entries_ascending (encoding k ∷ ks) es ≡ true = subst (λ y. entries_ascending (y ∷ ks) es ≡ true) e rest.ascends in
         record {
-          entries = next-entry k t es;
+          entries = next_entry k t es;
           sized = ap suc rest.sized;
           fits = omega (arith, rest.fits);
           at = λ inside-it. at_both w.place (encoding k) (encoding t ++ entries_encoding es) first.at

@@ -7,7 +7,7 @@ use Rattle.items.specs.declared.types.Head.{Head}
 use Rattle.items.specs.Keys.{span, above, has, chain, judged}
 use Rattle.items.specs.Heads.{after, part}
 use Rattle.items.specs.Reading.{Walk, move_to, also, items_of, judged_key, entries_of, body_of, inside, item_of, array_items, map_entries}
-use Rattle.items.specs.Trees.{Item, unsigned, negative, bytes, text, array, map, simple_false, simple_true, simple_null, Items, no_items, next_item, Entries, no_entries, next-entry, head_of, array_size, map_size, encoding, items_encoding, entries_encoding, total, items_total, entries_total, ascending, items_ascending, entries_ascending, Within, ItemsWithin, EntriesWithin, At}
+use Rattle.items.specs.Trees.{Item, unsigned, negative, bytes, text, array, map, simple_false, simple_true, simple_null, Items, no_items, next_item, Entries, no_entries, next_entry, head_of, array_size, map_size, encoding, items_encoding, entries_encoding, total, items_total, entries_total, ascending, items_ascending, entries_ascending, Within, ItemsWithin, EntriesWithin, At}
 use Rattle.items.proofs.Chains.{chain-new}
 use Rattle.items.proofs.Steps.{item_goes, body-number, body_bytes, body-text, body-array, body_map, body-simple, inside-array, inside-map, key_from, skip_fits, text-fits}
 use Rattle.items_laws.proofs.Written.{at_part, at_left, at_right, Reads, short, head-back}
@@ -115,8 +115,8 @@ mutual
 
   pub entries-back : (es : Entries) (ks : List (List ℕ)) (os : List ℕ) (p d left : ℕ) (s : Bool) (room : ℕ) → EntriesWithin es d → entries_total es ≤ left → chain ks ≡ true → entries_ascending ks es ≡ true → map_size es ≤ room → At os p (entries_encoding es) → entries_of (item_of d os) os (map_size es) room ks (walk p left s) ≡ Ok (walk (p + length (entries_encoding es)) (left - entries_total es) s)
   entries-back no_entries ks os p d left s room fits few rising up short-enough a = moved _ _ _ _ s (omega arith) (omega arith)
-  entries-back (next-entry k v es) ks os p d left s zero (key_in, value_in, fits) few rising up short-enough a = absurd (omega arith)
-  entries-back (next-entry k v es) ks os p d left s (suc room) (key_in, value_in, fits) few rising up short-enough a =
+  entries-back (next_entry k v es) ks os p d left s zero (key_in, value_in, fits) few rising up short-enough a = absurd (omega arith)
+  entries-back (next_entry k v es) ks os p d left s (suc room) (key_in, value_in, fits) few rising up short-enough a =
       let l = length-append (encoding k) (encoding v ++ entries_encoding es) in
       let j = length-append (encoding v) (entries_encoding es) in
       let a₁ = at_left os p (encoding k) (encoding v ++ entries_encoding es) a in

@@ -8,7 +8,7 @@ use Rattle.items.specs.Keys.{above}
 use Rattle.items.specs.Heads.{head_size}
 use Rattle.items.specs.Reading.{message_items, map_entries}
 use Rattle.items.specs.Lookup.{passed, is_key, entry_at, onward, seek, lookup_of}
-use Rattle.items.specs.Trees.{head_of, Item, unsigned, negative, bytes, text, array, map, simple_false, simple_true, simple_null, Entries, no_entries, next-entry, map_size, encoding, entries_encoding, total, entries_total, ascending, entries_ascending, Within, EntriesWithin, At, is_unsigned, value_of}
+use Rattle.items.specs.Trees.{head_of, Item, unsigned, negative, bytes, text, array, map, simple_false, simple_true, simple_null, Entries, no_entries, next_entry, map_size, encoding, entries_encoding, total, entries_total, ascending, entries_ascending, Within, EntriesWithin, At, is_unsigned, value_of}
 use Rattle.items.proofs.Seeking.{find_in, entry_hit, entry_next}
 use Rattle.items_laws.specs.Laws.{Found, FindsValue}
 use Rattle.items_laws.proofs.Written.{at_left, at_right, head-back}
@@ -74,8 +74,8 @@ module _ (os : List ℕ) (wanted : ℕ) where
   entries-found : (es : Entries) (ks : List (List ℕ)) (p room : ℕ) → EntriesWithin es 31 → entries_total es ≤ message_items → entries_ascending ks es ≡ true → map_size es ≤ room → At os p (entries_encoding es) → Found os (value_of es wanted) (seek os wanted (map_size es) room p)
   unfolding seek encoding total ascending Within
   entries-found no_entries ks p room fits few up short-enough a = refl
-  entries-found (next-entry k v es) ks p zero fits few up short-enough a = absurd (omega arith)
-  entries-found (next-entry k v es) ks p (suc room) (key_in, value_in, fits) few up short-enough a =
+  entries-found (next_entry k v es) ks p zero fits few up short-enough a = absurd (omega arith)
+  entries-found (next_entry k v es) ks p (suc room) (key_in, value_in, fits) few up short-enough a =
       let q : ℕ = p + length (encoding k) in
       let behind = at_right os p (encoding k) (encoding v ++ entries_encoding es) a in
       let u₁ = and_parts (ascending k) _ up in

@@ -3,7 +3,7 @@ use Rattle.std.proofs.Common.{◌≡◌, ℕ, ◌-◌, ◌≤◌, Bool, true, fa
 use Rattle.std.proofs.lemmas.Bool.{and_parts}
 use Rattle.items.specs.Keys.{above}
 use Rattle.items.specs.Reading.{containers, message_items}
-use Rattle.items.specs.Trees.{Item, unsigned, negative, bytes, text, array, map, simple_false, simple_true, simple_null, Items, no_items, next_item, Entries, no_entries, next-entry, encoding, total, entries_total, ascending, entries_ascending, Within, ItemsWithin, EntriesWithin, Canonical, is_unsigned, value_of}
+use Rattle.items.specs.Trees.{Item, unsigned, negative, bytes, text, array, map, simple_false, simple_true, simple_null, Items, no_items, next_item, Entries, no_entries, next_entry, encoding, total, entries_total, ascending, entries_ascending, Within, ItemsWithin, EntriesWithin, Canonical, is_unsigned, value_of}
 use Rattle.items_laws.proofs.Runnings.{none-some, some_same}
 
 -- more containers may lie around one another
@@ -27,7 +27,7 @@ mutual
 
   entries-within-more : (es : Entries) (d e : ℕ) → d ≤ e → EntriesWithin es d → EntriesWithin es e
   entries-within-more no_entries d e l w = tt
-  entries-within-more (next-entry k v es) d e l (key_in, value_in, rest) = (within_more k d e l key_in, within_more v d e l value_in, entries-within-more es d e l rest)
+  entries-within-more (next_entry k v es) d e l (key_in, value_in, rest) = (within_more k d e l key_in, within_more v d e l value_in, entries-within-more es d e l rest)
 
 -- the value of a key is within what its map is within
 record Inside (v : Item) (d most : ℕ) : Type 0 where
@@ -38,7 +38,7 @@ record Inside (v : Item) (d most : ℕ) : Type 0 where
 entries-value : (es : Entries) (ks : List (List ℕ)) (n : ℕ) (v : Item) (d most : ℕ) → EntriesWithin es d → entries_total es ≤ most → entries_ascending ks es ≡ true → value_of es n ≡ Some v → Inside v d most
 unfolding Within total ascending
 entries-value no_entries ks n v d most w few up is = absurd (none-some is)
-entries-value (next-entry k x es) ks n v d most (key_in, value_in, rest) few up is =
+entries-value (next_entry k x es) ks n v d most (key_in, value_in, rest) few up is =
     let u₁ = and_parts (ascending k) _ up in
     let u₂ = and_parts (above ks (encoding k)) _ u₁.1 in
     let u₃ = and_parts (ascending x) _ u₂.1 in

@@ -3,7 +3,7 @@ use Rattle.std.proofs.Common.{◌≡◌, ℕ, ◌+◌, ◌-◌, true, cond, eqb,
 use Rattle.items.specs.declared.types.Fault.{Fault}
 use Rattle.items.specs.declared.types.Head.{Head}
 use Rattle.items.specs.Heads.{part}
-use Rattle.items.specs.Trees.{head_of, Item, unsigned, negative, bytes, text, array, map, simple_false, simple_true, simple_null, Items, no_items, next_item, Entries, no_entries, next-entry, array_size, map_size, encoding, items_encoding, entries_encoding, Within, ItemsWithin, EntriesWithin, At}
+use Rattle.items.specs.Trees.{head_of, Item, unsigned, negative, bytes, text, array, map, simple_false, simple_true, simple_null, Items, no_items, next_item, Entries, no_entries, next_entry, array_size, map_size, encoding, items_encoding, entries_encoding, Within, ItemsWithin, EntriesWithin, At}
 use Rattle.items_laws.proofs.Written.{at_part, at_left, at_right, Reads, short, head-back}
 
 -- the head that an item is encoded with
@@ -170,9 +170,9 @@ module _ (os : List ℕ) where
 
     same_entries : (es us : Entries) (d e p : ℕ) → map_size es ≡ map_size us → EntriesWithin es d → EntriesWithin us e → At os p (entries_encoding es) → At os p (entries_encoding us) → es ≡ us
     same_entries no_entries no_entries d e p l wt wu a b = refl
-    same_entries no_entries (next-entry k v us) d e p l wt wu a b = absurd (omega arith)
-    same_entries (next-entry k v es) no_entries d e p l wt wu a b = absurd (omega arith)
-    same_entries (next-entry k v es) (next-entry k' v' us) d e p l (wk, wv, wes) (wk', wv', wus) a b =
+    same_entries no_entries (next_entry k v us) d e p l wt wu a b = absurd (omega arith)
+    same_entries (next_entry k v es) no_entries d e p l wt wu a b = absurd (omega arith)
+    same_entries (next_entry k v es) (next_entry k' v' us) d e p l (wk, wv, wes) (wk', wv', wus) a b =
         let a₁ = at_right os p (encoding k) (encoding v ++ entries_encoding es) a in
         let first = same_item k k' d e p wk wk' (at_left os p (encoding k) (encoding v ++ entries_encoding es) a) (at_left os p (encoding k') (encoding v' ++ entries_encoding us) b) in
         let b₁ = subst (λ x. At os (p + length (encoding x)) (encoding v' ++ entries_encoding us)) (sym first) (at_right os p (encoding k') (encoding v' ++ entries_encoding us) b) in
@@ -180,7 +180,7 @@ module _ (os : List ℕ) where
         let second = same_item v v' d e q wv wv' (at_left os q (encoding v) (entries_encoding es) a₁) (at_left os q (encoding v') (entries_encoding us) b₁) in
         let b₂ = subst (λ x. At os (q + length (encoding x)) (entries_encoding us)) (sym second) (at_right os q (encoding v') (entries_encoding us) b₁) in
         let rest = same_entries es us d e (q + length (encoding v)) (omega arith) wes wus (at_right os q (encoding v) (entries_encoding es) a₁) b₂ in
-        λ i. next-entry (first i) (second i) (rest i)
+        λ i. next_entry (first i) (second i) (rest i)
 
 -- the whole of os
 pub whole-at : (os xs : List ℕ) → xs ≡ os → At os 0 xs

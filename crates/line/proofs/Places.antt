@@ -126,11 +126,11 @@ flag-there k c (x ∷ xs) e =
           rw z (flag-there (k + 1) c xs e')
     ]
 
-starts-long : (xs ys : List Bool) → starts xs ys ≡ true → length xs ≤ length ys
+starts_long : (xs ys : List Bool) → starts xs ys ≡ true → length xs ≤ length ys
 unfolding starts
-starts-long [] ys t = omega arith
-starts-long (x ∷ xs) [] t = absurd (true≢false (sym t))
-starts-long (x ∷ xs) (y ∷ ys) t = let h = starts-long xs ys (and_parts _ _ t).1 in omega arith
+starts_long [] ys t = omega arith
+starts_long (x ∷ xs) [] t = absurd (true≢false (sym t))
+starts_long (x ∷ xs) (y ∷ ys) t = let h = starts_long xs ys (and_parts _ _ t).1 in omega arith
 
 -- and all of it lies in the bits
 pub flag-inside : (k c : ℕ) (bits : List Bool) → first_flag k (drop k bits) ≡ Some c → (starts flag (drop c bits) ≡ true) × (c + 8 ≤ length bits)
@@ -138,6 +138,6 @@ flag-inside k c bits e =
     let l = not_before k c (drop k bits) e in
     let d : k + (c - k) ≡ c = omega arith in
     let t : starts flag (drop c bits) ≡ true = ap (λ j. starts flag (drop j bits)) (sym d) ∙ ap (starts flag) (sym (drop-drop (c - k) k bits)) ∙ flag-there k c (drop k bits) e in
-    let s = starts-long flag (drop c bits) t in
+    let s = starts_long flag (drop c bits) t in
     let n = length-drop c bits in
     (t, omega arith)

@@ -1,7 +1,7 @@
 -- The fields of a message as a tree, the sender's side: what a message says, and what of it is signed.
 use Rattle.std.specs.Prelude.{◌≡◌, ℕ, ◌≤◌, Bool, true, false, ◌&&◌, List, length, Some, None, Option, ◌==◌, nat_le}
 use Rattle.std.specs.Str.{bytes_eq}
-use Rattle.items.specs.Trees.{Item, unsigned, negative, bytes, text, array, map, simple_false, simple_true, simple_null, Items, no_items, next_item, Entries, no_entries, next-entry, encoding, Canonical}
+use Rattle.items.specs.Trees.{Item, unsigned, negative, bytes, text, array, map, simple_false, simple_true, simple_null, Items, no_items, next_item, Entries, no_entries, next_entry, encoding, Canonical}
 use Rattle.message.specs.Sizes.{message_most, args_most, meta_most, text_most, bytes_most}
 use Rattle.message.specs.Checks.{signature_length}
 
@@ -24,7 +24,7 @@ pub record Fields : Type 0 where
 
 -- the entry of key k before others
 abbrev pub entry : ℕ → Item → Entries → Entries
-entry k v es = next-entry (unsigned k) v es
+entry k v es = next_entry (unsigned k) v es
 
 -- the same where it may be absent
 abbrev pub optionally : {V : Type 0} → ℕ → (V → Item) → Option V → Entries → Entries
@@ -104,7 +104,7 @@ unfoldable mutual
 
   pub entries_short : Entries → Bool
   entries_short no_entries = true
-  entries_short (next-entry k v es) = strings_short k && (strings_short v && entries_short es)
+  entries_short (next_entry k v es) = strings_short k && (strings_short v && entries_short es)
 
 -- the metadata are small enough, or absent
 abbrev pub meta_small : Option (Option (List ℕ)) → Bool

@@ -4,7 +4,7 @@ use Rattle.std.proofs.lemmas.Bool.Decides.{nat_tests}
 use Rattle.items.specs.declared.types.Span.{Span}
 use Rattle.items.specs.Heads.{head_size}
 use Rattle.items.specs.Fields.{string_at, text_at}
-use Rattle.items.specs.Trees.{Item, unsigned, negative, bytes, text, array, map, simple_false, simple_true, simple_null, Items, no_items, next_item, Entries, no_entries, next-entry, head_of, array_size, map_size, encoding, items_encoding, entries_encoding, total, items_total, entries_total, Within, ItemsWithin, EntriesWithin, At}
+use Rattle.items.specs.Trees.{Item, unsigned, negative, bytes, text, array, map, simple_false, simple_true, simple_null, Items, no_items, next_item, Entries, no_entries, next_entry, head_of, array_size, map_size, encoding, items_encoding, entries_encoding, total, items_total, entries_total, Within, ItemsWithin, EntriesWithin, At}
 use Rattle.items_laws.specs.Exact.{TextFits}
 use Rattle.items_laws.proofs.Written.{at_left, at_right, at_first, head-back}
 use Rattle.items_laws.proofs.Runnings.{argument-back, bytes-exact, text-exact}
@@ -132,7 +132,7 @@ module _ (xs : List ℕ) where
 
     pub fit_entries : (es : Entries) (p n d : ℕ) → EntriesWithin es d → At xs p (entries_encoding es) → strings_fit (entries_total es + n) xs p ≡ (entries_short es && strings_fit n xs (p + length (entries_encoding es)))
     fit_entries no_entries p n d w a = (λ i. strings_fit (none n i) xs (stay p i))
-    fit_entries (next-entry k v es) p n d (key_in, value_in, rest) a =
+    fit_entries (next_entry k v es) p n d (key_in, value_in, rest) a =
         let a₁ = at_right xs p (encoding k) (encoding v ++ entries_encoding es) a in
         ap (λ j. strings_fit j xs p) (add_assoc (total k) (total v + entries_total es) n)
         ∙ fit_item k p (total v + entries_total es + n) d key_in (at_left xs p (encoding k) (encoding v ++ entries_encoding es) a)

@@ -18,7 +18,7 @@ returns c =
       | then-not-sorted+else-seen w ↦ sym w.seen.ensures ∙ w.if-seen.false
       | else-not-sorted w ↦
           let both = and_parts old.sorted c.ascends-up.result w.if-not-sorted.false in
-          chain-new (held os old) k (sym c.requires.kept.sorted-is ∙ both.0) (sym up ∙ both.1)
+          chain-new (held os old) k (sym c.requires.kept.sorted_is ∙ both.0) (sym up ∙ both.1)
     ] in
     record {
       is = judged-new (held os old) k c.ascends-up.result up not_there;

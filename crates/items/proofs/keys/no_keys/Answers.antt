@@ -4,4 +4,4 @@ use Rattle.items.proofs.keys.no_keys.Goals as goal
 
 pub returns : goal.returns
 unfolding held
-returns c = record { kept = record { few = omega arith; ordered = λ i l. absurd (omega arith); within = λ i l. absurd (omega arith); sorted-is = refl; starts-long = refl; ends-long = refl }; none = refl; zero = refl }
+returns c = record { kept = record { few = omega arith; ordered = λ i l. absurd (omega arith); within = λ i l. absurd (omega arith); sorted_is = refl; starts_long = refl; ends_long = refl }; none = refl; zero = refl }
