@@ -4,8 +4,8 @@
 
 # The program, and the two libraries for C and Rust.
 OWAC := crates/owac/out/owac
-OWAC_C := crates/owac_c/out
-TIMINGS := crates/timings/out
+OWAC_C := crates/owac_c
+TIMINGS := crates/timings
 
 # How many calls a soak makes.
 N ?= 100000
@@ -20,14 +20,14 @@ test:
 	bash .ci/run
 
 bench:
-	cd $(OWAC_C)/.. && rt lib
-	cd $(TIMINGS)/.. && rt lib
+	cd $(OWAC_C) && rt lib
+	cd $(TIMINGS) && rt lib
 	mkdir -p target/bench
 	for work in line listen; do \
-	  rustc -O --edition 2024 -o target/bench/$$work bench/$$work.rs -L $(OWAC_C) -l static=owac_c || exit 1; \
+	  rustc -O --edition 2024 -o target/bench/$$work bench/$$work.rs -L $(OWAC_C)/out -l static=owac_c || exit 1; \
 	done
 	for work in sha256 message store; do \
-	  rustc -O --edition 2024 -o target/bench/$$work bench/$$work.rs -L $(TIMINGS) -l static=timings || exit 1; \
+	  rustc -O --edition 2024 -o target/bench/$$work bench/$$work.rs -L $(TIMINGS)/out -l static=timings || exit 1; \
 	done
 	target/bench/line
 	target/bench/sha256
@@ -45,6 +45,6 @@ host: target/host/host
 	target/host/host
 
 target/host/host:
-	cd $(OWAC_C)/.. && rt lib
+	cd $(OWAC_C) && rt lib
 	mkdir -p target/host
-	cc -std=c11 -Wall -Wextra -Werror -O2 -g -Iinclude -o target/host/host examples/host.c -L $(OWAC_C) -lowac_c
+	cc -std=c11 -Wall -Wextra -Werror -O2 -g -Iinclude -o target/host/host examples/host.c -L $(OWAC_C)/out -lowac_c
