@@ -2,6 +2,7 @@
 
 import copy
 import functools
+import random
 
 from gen_items import BAD_ITEMS, INDEFINITE_ITEMS, edited, put_somewhere
 from gen_line import damaged, hexed, random_bits, random_stream
@@ -371,12 +372,12 @@ def unreadable_lines(rng):
 
 def fixed_days(rng):
     yield from frame_edges(rng)
-    yield from unreadable_lines(rng)
     yield from damaged_day(rng)
     yield from marks_and_floors(rng)
     yield from allowed_and_denied(rng)
     yield from first_no(rng)
     yield from cut_everywhere(rng)
+    yield from unreadable_lines(random.Random(1))
 
 
 def receiver_cases(rng, wanted):

@@ -25,7 +25,14 @@ LIBRARY = {"length", "append", "take", "drop", "set", "map", "reverse", "replica
 CHOSEN = {"fcs-of": "fcs_case", "heard-as": "heard_case", "octet-of": "octet_of_lem", "octets-of": "octets_of_lem", "track-item": "track_item_lem",
           "closes_by": "closes_by_lem", "Heard-frame": "FrameIsHeard", "of-store": "of_store_lem",
           # constructors and fields take no dash, though it would join two names
-          "on-floor": "floor_over", "is-text": "utf8"}
+          "on-floor": "floor_over",
+          # lemmas that would differ from a definition by a dash alone
+          "big-endian": "big_endian_lem", "first-free": "first_free_lem", "key-at": "key_at_lem", "octets-at": "octets_at_lem",
+          "optional-entry": "optional_entry_lem", "put-cell": "put_cell_lem", "track-number": "track_number_lem",
+          # facts that a lemma takes
+          "frameIs": "FrameIs", "heardBy": "HeardBy"}
+# Names of arguments, and of an import.
+LOCAL = {"isMap": "is_map", "transcriptHash": "transcript_hash", "signatureHash": "signature_hash", "toneAt": "tone_at"}
 PLAIN = {"sorted-is", "starts-long", "ends-long", "next-entry", "above-mark", "shows-number", "shows-octets", "shows-heartbeat", "shows-queue",
          "shows-suggest", "shows-remove", "shows-state", "shows-seek", "shows-rate", "shows-next", "shows-previous", "shows-text", "shows-reserved"}
 # Parts of names that Rattle makes.
@@ -149,6 +156,7 @@ def main():
             print("left:", ", ".join(olds), "would fall together as", new)
             continue
         turned[olds[0]] = new
+    turned.update(LOCAL)
     kept = source_names()
 
     def turn(path, text):

@@ -32,9 +32,9 @@ module _ (os : List ℕ) (p key : ℕ) where
       unfolding signed_in
       signed-some fits = rw (sym at, sym is) (grind (arith, nat_tests))
 
-    pub track-number : (x : ℕ × ℕ) → Some x ≡ argument_at 0 os q → track_in (arguments_at os p) key ≡ Some (Number x.0)
+    pub track_number_lem : (x : ℕ × ℕ) → Some x ≡ argument_at 0 os q → track_in (arguments_at os p) key ≡ Some (Number x.0)
     unfolding track_in
-    track-number x is = rw (sym at, sym is)
+    track_number_lem x is = rw (sym at, sym is)
 
     module _ (none : None ≡ argument_at 0 os q) where
       pub track-none : None ≡ string_at 2 os q → track_in (arguments_at os p) key ≡ None

@@ -117,9 +117,9 @@ module _ (es : Entries) (key : ℕ) where
           let b = bound (unsigned_of v) (λ n. Some (Some n)) x got in
           e ∙ ap Some (unsigned_item v b.got b.first) ∙ ap item_of (some_same b.rest)
 
-optional-entry : (key : ℕ) (x : Option ℕ) (es : Entries) → entry_if key (item_of x) es ≡ optional_entry key x es
-optional-entry key None es = refl
-optional-entry key (Some n) es = refl
+optional_entry_lem : (key : ℕ) (x : Option ℕ) (es : Entries) → entry_if key (item_of x) es ≡ optional_entry key x es
+optional_entry_lem key None es = refl
+optional_entry_lem key (Some n) es = refl
 
 cond-through : {X : Type 0} (b : Bool) (x : Option X) (y : X) → cond b x None ≡ Some y → (b ≡ true) × (x ≡ Some y)
 cond-through true x y e = (refl, e)
@@ -146,7 +146,7 @@ module _ (kind : ℕ) (es : Entries) (good : Canonical (map es)) (o : Meant) whe
       let z = cond-some (keys_below 1 es) (heartbeat a.got) o a.rest in
       let all = relist es good 1 (omega arith) z.0 in
       let e₀ = optional-value es 0 a.got a.first in
-      subst (Sends kind es) z.1 (record { valid = tt; type_is = k; entries_are = all ∙ ap (λ x. entry_if 0 x no_entries) e₀ ∙ optional-entry 0 a.got no_entries })
+      subst (Sends kind es) z.1 (record { valid = tt; type_is = k; entries_are = all ∙ ap (λ x. entry_if 0 x no_entries) e₀ ∙ optional_entry_lem 0 a.got no_entries })
 
   queue-sent : kind ≡ 1 → queue_in (arguments_of es) ≡ Some o → Sends kind es o
   queue-sent k is =
@@ -162,7 +162,7 @@ module _ (kind : ℕ) (es : Entries) (good : Canonical (map es)) (o : Meant) whe
       let e₂ = optional-value es 2 c.got c.first in
       let e₃ = optional-value es 3 d.got d.first in
       let values : entries_from (value_of es) 0 4 ≡ entry 0 (track_item a.got) (entry 1 (integer b.got) (entry_if 2 (item_of c.got) (entry_if 3 (item_of d.got) no_entries))) = (λ i. entry_if 0 (e₀ i) (entry_if 1 (e₁.0 i) (entry_if 2 (e₂ i) (entry_if 3 (e₃ i) no_entries)))) in
-      let ends : entry_if 2 (item_of c.got) (entry_if 3 (item_of d.got) no_entries) ≡ optional_entry 2 c.got (optional_entry 3 d.got no_entries) = optional-entry 2 c.got _ ∙ ap (optional_entry 2 c.got) (optional-entry 3 d.got no_entries) in
+      let ends : entry_if 2 (item_of c.got) (entry_if 3 (item_of d.got) no_entries) ≡ optional_entry 2 c.got (optional_entry 3 d.got no_entries) = optional_entry_lem 2 c.got _ ∙ ap (optional_entry 2 c.got) (optional_entry_lem 3 d.got no_entries) in
       subst (Sends kind es) z.1 (record { valid = (e₁.1, y.0); type_is = k; entries_are = all ∙ values ∙ ap (λ r. entry 0 (track_item a.got) (entry 1 (integer b.got) r)) ends })
 
   suggest-sent : kind ≡ 2 → suggest_in (arguments_of es) ≡ Some o → Sends kind es o

@@ -1,4 +1,4 @@
--- Bounds of a big-endian number. Assumes nothing.
+-- Bounds of a big_endian_lem number. Assumes nothing.
 use Rattle.std.proofs.Common.{ℕ, ◌+◌, ◌*◌, ◌^◌, ◌<◌, ◌≤◌, pow-suc, add-one, arith, lit<}
 use native.Mathlib.Nat.{pow-le-pow_right}
 

@@ -78,9 +78,9 @@ pub not_simple : (h : Head) → (h.major ≡ 7 → h.shortest ≡ true → 20 �
 not_simple h none = grind (arith, nat_tests)
 
 module _ (d : ℕ) (os : List ℕ) (n : ℕ) (u : Walk) where
-  pub inside-none : (isMap : Bool) → d ≡ 0 → inside d os isMap n u ≡ Err Malformed
+  pub inside-none : (is_map : Bool) → d ≡ 0 → inside d os is_map n u ≡ Err Malformed
   unfolding inside
-  inside-none isMap z = rw z
+  inside-none is_map z = rw z
 
   pub inside-array : (d ≡ 0 → ⊥) → inside d os false n u ≡ items_of (item_of (d - 1) os) os n array_items u
   unfolding inside item_of
@@ -246,7 +246,7 @@ text-is : (os : List ℕ) (p n q : ℕ) → text_read os p n ≡ Ok q → q ≡ 
 unfolding text_read
 text-is os p n q e = cond_ok (leb (p + n) (length os)) (p + n) q _ (λ x. cond_ok (is_text (part os p n)) (p + n) x (Ok (p + n)) (ok_same (p + n))) e
 
-fwd_body : (inner : Bool → ℕ → Walk → Result Walk Fault) (os : List ℕ) (h : Head) → ((isMap : Bool) (n : ℕ) → Going (inner isMap n)) → Going (body_of inner os h)
+fwd_body : (inner : Bool → ℕ → Walk → Result Walk Fault) (os : List ℕ) (h : Head) → ((is_map : Bool) (n : ℕ) → Going (inner is_map n)) → Going (body_of inner os h)
 unfolding body_of
 fwd_body inner os h k w =
     fwd_cond _ (leb h.major 1) _ _ (omega arith)
@@ -256,7 +256,7 @@ fwd_body inner os h k w =
     (fwd_cond _ (eqb h.major 5) _ _ (k true h.argument w)
     (fwd_cond _ (simple h) _ _ (omega arith) tt)))))
 
-fwd_item : (inner : Bool → ℕ → Walk → Result Walk Fault) (os : List ℕ) → ((isMap : Bool) (n : ℕ) → Going (inner isMap n)) → Going (item_with inner os)
+fwd_item : (inner : Bool → ℕ → Walk → Result Walk Fault) (os : List ℕ) → ((is_map : Bool) (n : ℕ) → Going (inner is_map n)) → Going (item_with inner os)
 unfolding item_with
 fwd_item inner os k w = fwd_cond _ (eqb w.left 0) _ _ tt (by (head_at os w.place))
   where
@@ -264,9 +264,9 @@ fwd_item inner os k w = fwd_cond _ (eqb w.left 0) _ _ tt (by (head_at os w.place
     by (Err e) = tt
     by (Ok h) = fwd_less w.place (w.place + head_size os w.place) (omega arith) (body_of inner os h (past_head os w h)) (fwd_body inner os h k (past_head os w h))
 
-fwd_inside : (d : ℕ) (os : List ℕ) (isMap : Bool) (n : ℕ) → Going (inside d os isMap n)
+fwd_inside : (d : ℕ) (os : List ℕ) (is_map : Bool) (n : ℕ) → Going (inside d os is_map n)
 unfolding inside
-fwd_inside zero os isMap n w = tt
+fwd_inside zero os is_map n w = tt
 fwd_inside (suc d) os false n w = fwd_items (item_with (inside d os) os) os (fwd_item (inside d os) os (fwd_inside d os)) n array_items w
 fwd_inside (suc d) os true n w = fwd_entries (item_with (inside d os) os) os (fwd_item (inside d os) os (fwd_inside d os)) n map_entries [] w
 

@@ -80,7 +80,7 @@ item_with inner os w =
 
 -- what a map (true) or an array of n holds, where so many containers may lie around one another
 unfoldable pub inside : ℕ → List ℕ → Bool → ℕ → Walk → Result Walk Fault
-inside zero os isMap n w = Err Malformed
+inside zero os is_map n w = Err Malformed
 inside (suc d) os false n w = items_of (item_with (inside d os) os) os n array_items w
 inside (suc d) os true n w = entries_of (item_with (inside d os) os) os n map_entries [] w
 

@@ -14,7 +14,7 @@ use Rattle.items.specs.Reading.{Walk, move_to, also, items_of, judged_key, entri
 use Rattle.items.specs.Trees.{octets_of, head_of, Item, unsigned, negative, bytes, text, array, map, simple_false, simple_true, simple_null, Items, no_items, next_item, Entries, no_entries, next_entry, array_size, map_size, encoding, items_encoding, entries_encoding, total, items_total, entries_total, ascending, items_ascending, entries_ascending, Within, ItemsWithin, EntriesWithin, At}
 use Rattle.items.proofs.Steps.{item_none, item_no_head, item_goes, body-number, body_bytes, body-text, body-array, body_map, body-simple, body-other, inside-none, key_from, skip_fits, skip_short, text-fits, text_bad, text-short}
 use Rattle.items_laws.proofs.Written.{length-octets}
-use Rattle.items_laws.proofs.Backs.{both_true, key-at}
+use Rattle.items_laws.proofs.Backs.{both_true, key_at_lem}
 
 pub ok_same : {X : Type 0} {x y : X} → ◌≡◌ {A = Result X Fault} (Ok x) (Ok y) → x ≡ y
 ok_same e = cc
@@ -49,16 +49,16 @@ module _ (os : List ℕ) (octet : (i : ℕ) → get_or os i 0 < 256) where
       go zero h = ap (λ k. get_or os k 0) (add-zero p) ∙ first
       go (suc i) h = let e : p + suc i ≡ p + 1 + i = omega arith in ap (λ k. get_or os k 0) e ∙ a.same i (omega arith)
 
-  octets-at : (p k : ℕ) → p + k ≤ length os → At os p (octets_of k (big_endian os p k))
-  octets-at p zero h = record { within = omega arith; same = λ i lt. absurd (omega arith) }
-  octets-at p (suc k) h =
+  octets_at_lem : (p k : ℕ) → p + k ≤ length os → At os p (octets_of k (big_endian os p k))
+  octets_at_lem p zero h = record { within = omega arith; same = λ i lt. absurd (omega arith) }
+  octets_at_lem p (suc k) h =
       let v : ℕ = big_endian os p k in
       let b : ℕ = get_or os (p + k) 0 in
       let o = octet (p + k) in
       let q : (v * 256 + b) / 256 ≡ v = omega (arith, o) in
       let m : (v * 256 + b) % 256 ≡ b = omega (arith, o) in
       let l = length-octets k v in
-      let step = at_more p (octets_of k v) (octets-at p k (omega arith)) (omega arith) in
+      let step = at_more p (octets_of k v) (octets_at_lem p k (omega arith)) (omega arith) in
       rw (q, m) (subst (λ j. At os p (octets_of k v ++ (get_or os (p + j) 0 ∷ []))) l step)
 
   pub record Wrote (p : ℕ) (h : Head) : Type 0 where
@@ -96,7 +96,7 @@ module _ (os : List ℕ) (octet : (i : ℕ) → get_or os i 0 < 256) where
         let lt = number_lt (p + 1) (width info) in
         let s = shape m n over lt in
         let size : head_size os p ≡ 1 + width info = rw r (grind (arith, nat_tests)) in
-        let a = at_cons p (32 * m + info) (octets_of (width info) n) (omega arith) some (octets-at (p + 1) (width info) (omega arith)) in
+        let a = at_cons p (32 * m + info) (octets_of (width info) n) (omega arith) some (octets_at_lem (p + 1) (width info) (omega arith)) in
         let l = length-octets (width info) n in
         subst (Wrote p) (sym e) (record { at = subst (At os p) (sym s) a; long = size ∙ omega (arith, ap length s); fits = top n lt }))
         (λ (out : length os ≤ p + width info).
@@ -236,7 +236,7 @@ module _ (os : List ℕ) (octet : (i : ℕ) → get_or os i 0 < 256) where
         let k = first.tree in
         let t = second.tree in
         let es = rest.entries in
-        let e : key_from os w u ≡ encoding k = ap (span os w.place) first.on ∙ key-at os w.place (encoding k) first.at in
+        let e : key_from os w u ≡ encoding k = ap (span os w.place) first.on ∙ key_at_lem os w.place (encoding k) first.at in
         let rises : above ks (encoding k) ≡ true = ap (above ks) (sym e) ∙ sym (judged-back ks (key_from os w u) up j) ∙ good.1 in
         let l = length-append (encoding k) (encoding t ++ entries_encoding es) in
         let m = length-append (encoding t) (entries_encoding es) in

@@ -52,8 +52,8 @@ entries-first f os n room ks w u v k is e new vs =
     ∙ ap (λ r. after r (entries_of f os n room (k ∷ ks))) vs
 
 -- the octets of a key that is encoded at p
-pub key-at : (os : List ℕ) (p : ℕ) (xs : List ℕ) → At os p xs → span os p (p + length xs) ≡ xs
-key-at os p xs a = let e : p + length xs - p ≡ length xs = omega arith in ap (part os p) e ∙ at_part os p xs a
+pub key_at_lem : (os : List ℕ) (p : ℕ) (xs : List ℕ) → At os p xs → span os p (p + length xs) ≡ xs
+key_at_lem os p xs a = let e : p + length xs - p ≡ length xs = omega arith in ap (part os p) e ∙ at_part os p xs a
 
 mutual
   unfolding encoding total ascending Within items_of entries_of
@@ -126,7 +126,7 @@ mutual
       let u₃ = and_parts (ascending v) _ u₂.1 in
       entries-first (item_of d os) os (map_size es) room ks (walk p left s) (walk (p + length (encoding k)) (left - total k) s) (walk (p + length (encoding k) + length (encoding v)) (left - total k - total v) s) (encoding k)
       (item_back k os p d left s key_in (omega arith) u₁.0 a₁)
-      (key-at os p (encoding k) a₁)
+      (key_at_lem os p (encoding k) a₁)
       (judged-some ks (encoding k) (chain-new ks (encoding k) rising u₂.0) u₂.0)
       (ap (λ g. item_of d os (walk (p + length (encoding k)) (left - total k) g)) (and_true s)
       ∙ item_back v os (p + length (encoding k)) d (left - total k) s value_in (omega arith) u₃.0 (at_left os (p + length (encoding k)) (encoding v) (entries_encoding es) b))

@@ -86,9 +86,9 @@ module _ (cs : List Cell) where
       up s k (e ∙ ap (λ x. Some x) ik) j b
   before s k None e h j l b = round s k e (sym (first_second cs _ _ e) ∙ h) j l b
 
-  pub first-free : (last o : Option ℕ) → o ≡ chosen cs last → IfSome o (λ k. Expendable cs k) × FirstFree cs (start_after last) o
-  first-free last None e = (tt, λ j l. chosen-nowhere cs last (sym e) j l)
-  first-free last (Some k) e =
+  pub first_free_lem : (last o : Option ℕ) → o ≡ chosen cs last → IfSome o (λ k. Expendable cs k) × FirstFree cs (start_after last) o
+  first_free_lem last None e = (tt, λ j l. chosen-nowhere cs last (sym e) j l)
+  first_free_lem last (Some k) e =
       let inside = chosen-inside cs last k (sym e) in
       let free = chosen-free cs last k (sym e) in
       (expendable cs k inside free, record { inside = inside; free = free; before = before (start_after last) k _ refl (sym e) })

@@ -69,8 +69,8 @@ module _ (i : Inputs) (s : State) (admits : Ok tt ≡ admission (length i.burst)
   through : first (questions i s) ≡ first rows
   through = past (leb work_octets i.work) (in_bounds (length i.burst) i.count i.start) s.on (first rows) _ _ _ admits on
 
-  abbrev heardBy : Outcome → Type 0
-  heardBy o = Says follows o.answer.hearing o.answer.next o.octets rows
+  abbrev HeardBy : Outcome → Type 0
+  HeardBy o = Says follows o.answer.hearing o.answer.next o.octets rows
 
   abbrev outcome : Outcome
   outcome = hears i.burst i.count i.start i.work

@@ -1,11 +1,11 @@
 // Tones and decoded bits of a burst.
 ghost use Rattle.std.specs.Prelude.{◌≡◌, ◌+◌, ◌*◌, ◌<◌, ◌≤◌, length};
-ghost use Rattle.line.specs.Bits.{tone as toneAt, tone_before, decoded};
+ghost use Rattle.line.specs.Bits.{tone as tone_at, tone_before, decoded};
 
 // Tone k: whether it is mark.
 fn tone(octets: &[u8], k: usize) -> bool
     requires { k < 8 * length octets.now }
-    ensures { result ≡ toneAt octets.now k }
+    ensures { result ≡ tone_at octets.now k }
 {
     (octets[k / 8] >> (k % 8)) & 1 == 1
 }

@@ -80,8 +80,8 @@ quiet_frame : (k n c : ℕ) → (quiet_at k).answer ≡ record { hearing = Frame
 quiet_frame k n c e = let h : Quiet ≡ Frame n = ap (λ (x : Heard). x.hearing) e in let z : ◌≡◌ {A = ℕ} 0 1 = cc in omega arith
 
 module _ (bits : List Bool) (start n c : ℕ) where
-  abbrev frameIs : Outcome → Type 0
-  frameIs o = o.answer ≡ record { hearing = Frame n; next = c }
+  abbrev FrameIs : Outcome → Type 0
+  FrameIs o = o.answer ≡ record { hearing = Frame n; next = c }
 
   abbrev octet_rows : ℕ → List Bool → Questions Outcome
   octet_rows k kept = ask (eqb (length kept % 8) 0) (refused_at OctetAlign k) ⨟ ask (checked (octets_in kept)) (refused_at FcsFail k) ⨟ frame_at k (octets_in kept)
@@ -94,7 +94,7 @@ module _ (bits : List Bool) (start n c : ℕ) where
 
   at-octets : (b k : ℕ) (kept : List Bool) (t u : Bool) → eqb (length kept % 8) 0 ≡ t → checked (octets_in kept) ≡ u
       → body_start bits start ≡ Some b → closing bits b ≡ Some k → unstuffed (between b k bits) ≡ Some kept → hears_line bits start ≡ first (octet_rows k kept)
-      → frameIs (first (ask t (refused_at OctetAlign k) ⨟ ask u (refused_at FcsFail k) ⨟ frame_at k (octets_in kept))) → Passed bits start n c
+      → FrameIs (first (ask t (refused_at OctetAlign k) ⨟ ask u (refused_at FcsFail k) ⨟ frame_at k (octets_in kept))) → Passed bits start n c
   at-octets b k kept false u et eu s g w o f = absurd (refused-frame OctetAlign k n c f)
   at-octets b k kept true false et eu s g w o f = absurd (refused-frame FcsFail k n c f)
   at-octets b k kept true true et eu s g w o f =
@@ -115,20 +115,20 @@ module _ (bits : List Bool) (start n c : ℕ) where
       }
 
   at_stuffing : (b k : ℕ) (o : Option (List Bool)) → unstuffed (between b k bits) ≡ o → body_start bits start ≡ Some b → closing bits b ≡ Some k → hears_line bits start ≡ first (closed_rows b k)
-      → frameIs (first (found o (refused_at Framing k) (octet_rows k))) → Passed bits start n c
+      → FrameIs (first (found o (refused_at Framing k) (octet_rows k))) → Passed bits start n c
   at_stuffing b k None e s g h f = absurd (refused-frame Framing k n c f)
   at_stuffing b k (Some kept) e s g h f =
       at-octets b k kept (eqb (length kept % 8) 0) (checked (octets_in kept)) refl refl s g e (h ∙ ap (λ x. first (found x (refused_at Framing k) (octet_rows k))) e) f
 
   at-closing : (b : ℕ) (t : Bool) (o : Option ℕ) → in_time bits b ≡ t → closing bits b ≡ o → body_start bits start ≡ Some b → hears_line bits start ≡ first (body_rows b)
-      → frameIs (first (ask t (refused_at BurstTooLong (b + longest_body)) ⨟ found o (refused_at Framing (length bits)) (closed_rows b))) → Passed bits start n c
+      → FrameIs (first (ask t (refused_at BurstTooLong (b + longest_body)) ⨟ found o (refused_at Framing (length bits)) (closed_rows b))) → Passed bits start n c
   at-closing b false o et eo s h f = absurd (refused-frame BurstTooLong (b + longest_body) n c f)
   at-closing b true None et eo s h f = absurd (refused-frame Framing (length bits) n c f)
   at-closing b true (Some k) et eo s h f =
       at_stuffing b k (unstuffed (between b k bits)) refl s eo (h ∙ (let e : first (body_rows b) ≡ first (closed_rows b k) = rw (et, eo) in e)) f
 
   at_opening : (o : Option ℕ) → body_start bits start ≡ o → hears_line bits start ≡ first (found (body_start bits start) (quiet_at (length bits)) body_rows)
-      → frameIs (first (found o (quiet_at (length bits)) body_rows)) → Passed bits start n c
+      → FrameIs (first (found o (quiet_at (length bits)) body_rows)) → Passed bits start n c
   at_opening None e h f = absurd (quiet_frame (length bits) n c f)
   at_opening (Some b) e h f =
       at-closing b (in_time bits b) (closing bits b) refl refl e (h ∙ ap (λ x. first (found x (quiet_at (length bits)) body_rows)) e) f

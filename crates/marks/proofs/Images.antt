@@ -147,8 +147,8 @@ cells-torn m i h =
     let s : get_or (take 81 (drop (i * 81) m')) 0 0 ≡ 255 = get_or-take 81 (drop (i * 81) m') 0 0 (omega arith) ∙ get_or-drop (i * 81) m' 0 0 ∙ ap (λ x. get_or m' x 0) w ∙ get_or-set_same m (i * 81) 255 0 la in
     ap (λ x. cond (eqb x 0) Blank (cond (eqb x 1) (Held (record_in (take 81 (drop (i * 81) m')))) Torn)) s)
 
-pub put-cell : (m : List ℕ) (i : ℕ) {ys zs : List ℕ} (k : ℕ) → k ≡ 81 → ys ≡ zs → put_mid (i * 81) k m ys ≡ put_cell i zs m
-put-cell m i k e f = cc
+pub put_cell_lem : (m : List ℕ) (i : ℕ) {ys zs : List ℕ} (k : ℕ) → k ≡ 81 → ys ≡ zs → put_mid (i * 81) k m ys ≡ put_cell i zs m
+put_cell_lem m i k e f = cc
 
 -- an octet by what lies before or behind it
 below-same : (m m' : List ℕ) (a : ℕ) → take a m' ≡ take a m → (j : ℕ) → j < a → get_or m' j 0 ≡ get_or m j 0

@@ -1,5 +1,5 @@
 -- How a cell lies in 81 octets, and a list of cells in an image.
-use Rattle.std.specs.Prelude.{◌≡◌, ℕ, ◌+◌, ◌*◌, ◌/◌, ◌%◌, ◌^◌, ◌<◌, ◌≤◌, cond, ◌⊎◌, List, [], ◌∷◌, ◌++◌, map, length, take, drop, ◌==◌, ◌≢◌, slice_index, slice_index_or, slice_set}
+use Rattle.std.specs.Prelude.{◌≡◌, ℕ, ◌+◌, ◌*◌, ◌/◌, ◌%◌, ◌^◌, ◌<◌, ◌≤◌, cond, ◌⊎◌, List, [], ◌∷◌, ◌++◌, map, length, take, drop, ◌==◌, ◌≢◌, slice_index, slice_set}
 use Rattle.std.specs.Borrow.{MutBor}
 use Rattle.std.specs.List.{range_with_len}
 use Rattle.marks.specs.declared.mark.Cell.{Cell}
@@ -76,7 +76,7 @@ image_after Done v i r m = put_cell i (encoded r) m
 
 -- octet by octet, cell i of an image holds the record r
 pub record StoredOctets (m : List ℕ) (i : ℕ) (r : Record) : Type 0 where
-  pub state : slice_index_or m (i * 81) 0 ≡ 1
+  pub state : slice_index m (i * 81) ≡ 1
   pub sid : (k : ℕ) → k < 16 → slice_index m (i * 81 + 1 + k) ≡ slice_index r.pair.sid k
   pub kid : (k : ℕ) → k < 16 → slice_index m (i * 81 + 17 + k) ≡ slice_index r.pair.kid k
   pub epoch : (k : ℕ) → k < 8 → slice_index m (i * 81 + 33 + k) ≡ slice_index (octets8 r.mark.position.epoch) k
@@ -85,7 +85,7 @@ pub record StoredOctets (m : List ℕ) (i : ℕ) (r : Record) : Type 0 where
 
 -- octet by octet, cell i is torn: its state is FF, and every other octet of the image is as it was
 pub record TornOctets (m : List ℕ) (i : ℕ) (m' : List ℕ) : Type 0 where
-  pub state : slice_index_or m' (i * 81) 0 ≡ 255
+  pub state : slice_index m' (i * 81) ≡ 255
   pub rest : (j : ℕ) → (j ≢ i * 81) → slice_index m' j ≡ slice_index m j
 
 -- each octet after a cut in a write of r to cell i

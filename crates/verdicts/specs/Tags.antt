@@ -10,7 +10,7 @@ is_of_kid kid row = bytes_eq (field 0 16 row) kid
 
 -- a row of this kid, hash of a transcript and tag
 abbrev pub is_tag : List ℕ → List ℕ → List ℕ → List ℕ → Bool
-is_tag kid transcriptHash tag row = is_of_kid kid row && bytes_eq (field 16 32 row) transcriptHash && bytes_eq (field 48 16 row) tag
+is_tag kid transcript_hash tag row = is_of_kid kid row && bytes_eq (field 16 32 row) transcript_hash && bytes_eq (field 48 16 row) tag
 
 -- a kid is known for alg 3 alone, when it has a row
 abbrev pub is_listed : List ℕ → List ℕ → ℕ → Bool

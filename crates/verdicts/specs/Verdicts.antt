@@ -10,9 +10,9 @@ is_pin kid alg row = slice_index row 0 == 0x00 && bytes_eq (field 1 16 row) kid 
 
 -- a yes row (kind 01) of this kid, alg, hash of a transcript and hash of a signature
 abbrev pub is_yes : List ℕ → ℕ → List ℕ → List ℕ → List ℕ → Bool
-is_yes kid alg transcriptHash signatureHash row =
+is_yes kid alg transcript_hash signature_hash row =
     (slice_index row 0 == 0x01) && bytes_eq (field 1 16 row) kid && slice_index row 17 == alg
-    && bytes_eq (field 18 32 row) transcriptHash && bytes_eq (field 50 32 row) signatureHash
+    && bytes_eq (field 18 32 row) transcript_hash && bytes_eq (field 50 32 row) signature_hash
 
 -- a kid is known for an alg when it has a pin row
 abbrev pub is_pinned : List ℕ → List ℕ → ℕ → Bool

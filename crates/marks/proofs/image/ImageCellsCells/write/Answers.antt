@@ -3,7 +3,7 @@ use borrow.Rule.Slice.PartMut.{put_mid}
 use Rattle.marks.specs.declared.mark.CutLeaves.TheVariants.{Old, New, Torn}
 use Rattle.marks.specs.declared.mark.Written.TheVariants.{Cut, Done}
 use Rattle.marks.specs.Octets.{cells_in, image_cut, StoredOctets, EachCut}
-use Rattle.marks.proofs.Images.{cells-length, cells-put, cells-torn, put-cell, one-put, one-torn, one_same, stored, torn}
+use Rattle.marks.proofs.Images.{cells-length, cells-put, cells-torn, put_cell_lem, one-put, one-torn, one_same, stored, torn}
 use Rattle.marks.proofs.image.ImageCellsCells.write.Goals as goal
 
 pub returns-then-i-self : goal.returns-then-i-self
@@ -21,7 +21,7 @@ returns-then-self-gt0 c =
     let k : i * 81 + 81 - i * 81 ≡ 81 = omega arith in
     let ys = c.encode.new.cell in
     let l : length ys ≡ 81 = search rules in
-    let image = put-cell m i _ k c.encode.ensures.octets in
+    let image = put_cell_lem m i _ k c.encode.ensures.octets in
     record {
       writes = record { powered = search rules; inside = h; paid = omega arith; after = cells-put m ys i _ _ n k l c.encode.ensures.reads; still = search rules };
       memory = record { lender = refl; leaves = refl; octets = one-put m ys i _ n k l; written = record { answer = Done; cell = i; new = c.args.new; after = image } };
@@ -51,7 +51,7 @@ returns-in-New c =
     let e = c.encode-in-New in
     let ys = e.new.cell in
     let l : length ys ≡ 81 = search rules in
-    let same = put-cell m i _ k e.ensures.octets in
+    let same = put_cell_lem m i _ k e.ensures.octets in
     let image = same ∙ sym (ap (λ v. image_cut v i c.args.new m) c.in-New.is) in
     record {
       writes = (New, record { powered = search rules; inside = h; empty = omega arith; after = cells-put m ys i _ _ n k l e.ensures.reads; off = refl; spent = omega arith });
