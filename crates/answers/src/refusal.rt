@@ -1,77 +1,51 @@
 // The refusals, each with its number and its name.
-ghost use Rattle.std.specs.Prelude.{◌≡◌};
+ghost use Rattle.std.specs.Prelude.{◌≡◌, Some};
 ghost use Rattle.answers.specs.Refusals.{number_of, name_of};
 
-#[derive(Clone, Copy)]
+use std::fmt;
+
+/// Why nothing was let in or written.
+#[derive(Clone, Copy, Debug, PartialEq, Eq)]
 pub enum Refusal {
-    WorkTooShort,
-    OutOfBounds,
-    StoreOff,
-    BurstTooLong,
-    Framing,
-    OctetAlign,
-    FcsFail,
-    CborParse,
-    Indefinite,
-    NotDeterministic,
-    Schema,
-    ProfileMismatch,
-    SizeLimit,
-    ContextMismatch,
-    KidUnknown,
-    SignatureLength,
-    AuthFail,
-    Replay,
-    Expired,
-    ExpTooFar,
-    UnknownCommand,
-    BadArguments,
-    AllowlistDeny,
-    DuoPolicyUnknown,
-    NoRoom,
-    NotRaised,
-    MessageTooLong,
-    OutputTooShort,
+    WorkTooShort = 1,
+    OutOfBounds = 2,
+    StoreOff = 3,
+    BurstTooLong = 4,
+    Framing = 5,
+    OctetAlign = 6,
+    FcsFail = 7,
+    CborParse = 8,
+    Indefinite = 9,
+    NotDeterministic = 10,
+    Schema = 11,
+    ProfileMismatch = 12,
+    SizeLimit = 13,
+    ContextMismatch = 14,
+    KidUnknown = 15,
+    SignatureLength = 16,
+    AuthFail = 17,
+    Replay = 18,
+    Expired = 19,
+    ExpTooFar = 20,
+    UnknownCommand = 21,
+    BadArguments = 22,
+    AllowlistDeny = 23,
+    DuoPolicyUnknown = 24,
+    NoRoom = 25,
+    NotRaised = 26,
+    MessageTooLong = 27,
+    OutputTooShort = 28,
 }
 
 impl Refusal {
-    // The number that the rules give it.
+    /// The number that the rules give it.
     pub fn number(self) -> u8
         ensures { result ≡ number_of self }
     {
-        match self {
-            Refusal::WorkTooShort => 1,
-            Refusal::OutOfBounds => 2,
-            Refusal::StoreOff => 3,
-            Refusal::BurstTooLong => 4,
-            Refusal::Framing => 5,
-            Refusal::OctetAlign => 6,
-            Refusal::FcsFail => 7,
-            Refusal::CborParse => 8,
-            Refusal::Indefinite => 9,
-            Refusal::NotDeterministic => 10,
-            Refusal::Schema => 11,
-            Refusal::ProfileMismatch => 12,
-            Refusal::SizeLimit => 13,
-            Refusal::ContextMismatch => 14,
-            Refusal::KidUnknown => 15,
-            Refusal::SignatureLength => 16,
-            Refusal::AuthFail => 17,
-            Refusal::Replay => 18,
-            Refusal::Expired => 19,
-            Refusal::ExpTooFar => 20,
-            Refusal::UnknownCommand => 21,
-            Refusal::BadArguments => 22,
-            Refusal::AllowlistDeny => 23,
-            Refusal::DuoPolicyUnknown => 24,
-            Refusal::NoRoom => 25,
-            Refusal::NotRaised => 26,
-            Refusal::MessageTooLong => 27,
-            Refusal::OutputTooShort => 28,
-        }
+        self as u8
     }
 
-    // The name that an operator reads.
+    /// The name that an operator reads.
     pub fn name(self) -> &'static str
         ensures { result.now ≡ name_of self }
     {
@@ -105,5 +79,14 @@ impl Refusal {
             Refusal::MessageTooLong => "MESSAGE_TOO_LONG",
             Refusal::OutputTooShort => "OUTPUT_TOO_SHORT",
         }
+    }
+}
+
+/// Writes the name.
+impl fmt::Display for Refusal {
+    ghost output = { λ refusal. Some (name_of refusal) };
+
+    fn fmt<W: fmt::Write>(&self, f: &mut fmt::Formatter<W>) -> fmt::Result {
+        f.write_str(self.name())
     }
 }
