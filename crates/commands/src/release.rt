@@ -1,5 +1,5 @@
 // Whether a request may be released, and the text of a command.
-ghost use Rattle.std.specs.Prelude.{◌≡◌, ◌&&◌, if◌then◌else◌, None};
+ghost use Rattle.std.specs.Prelude.{◌≡◌, ◌&&◌, if◌then◌else◌, Some, None};
 ghost use Rattle.commands.specs.Release.{in_catalog, track_listed, not_reserved, tracks_listed, is_heartbeat, track_number, command_of, allowed, part_of, command_text};
 
 use crate::types::{Command, Request, Track};
@@ -82,6 +82,39 @@ impl Request {
             return None;
         }
         self.command(catalog)
+    }
+}
+
+// The request whose command it is: its own arguments, and a track as a number.
+impl From<Command> for Request {
+    ghost from_gives = { λ command request. command_of request ≡ Some command };
+
+    fn from(command: Command) -> Request {
+        match command {
+            Command::Heartbeat { time } => Request::Heartbeat { time },
+            Command::Queue {
+                track,
+                priority,
+                earliest,
+                until,
+            } => Request::Queue {
+                track: Track::Number(track),
+                priority,
+                earliest,
+                until,
+            },
+            Command::Suggest { track, weight } => Request::Suggest {
+                track: Track::Number(track),
+                weight,
+            },
+            Command::Remove { item } => Request::Remove { item },
+            Command::State { state } => Request::State { state },
+            Command::Seek { milliseconds } => Request::Seek { milliseconds },
+            Command::Rate { percent } => Request::Rate { percent },
+            Command::Next => Request::Next,
+            Command::Previous => Request::Previous,
+            Command::Text { target, mode, text } => Request::Text { target, mode, text },
+        }
     }
 }
 
