@@ -6,3 +6,4 @@ pub mod Walks
 pub mod Lookup
 pub mod Fields
 pub mod Trees
+pub mod Spans

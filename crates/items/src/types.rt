@@ -1,4 +1,7 @@
 // What a reading tells and keeps.
+ghost use Rattle.std.specs.Prelude.{◌≡◌};
+ghost use Rattle.std.specs.Option.{option_map};
+ghost use Rattle.items.specs.Spans.{shown};
 
 /// Why octets are no item.
 #[derive(Clone, Copy)]
@@ -39,6 +42,16 @@ pub struct Reading {
 pub struct Span {
     pub start: usize,
     pub len: usize,
+}
+
+impl Span {
+    /// The octets of the span; `None` where it does not lie within them.
+    #[tactic(auto, unfolding(crate::specs::Spans::shown))]
+    pub fn of<'a>(self, octets: &'a [u8]) -> Option<&'a [u8]>
+        ensures { option_map (λ part. part.now) result ≡ shown octets.now self }
+    {
+        octets.get(self.start..self.start.checked_add(self.len)?)
+    }
 }
 
 /// An entry of a map: its value starts here, or the next entry does.
