@@ -5,6 +5,7 @@ use Rattle.marks.specs.declared.mark.Mark.{Mark}
 use Rattle.marks.specs.declared.mark.CutLeaves.{CutLeaves}
 use Rattle.marks.specs.declared.mark.Raised.{Raised}
 use Rattle.marks.specs.declared.mark.Raised.TheVariants.{Off, Low, Full, Cut, Done}
+use Rattle.marks.specs.declared.power.Power.{Power}
 use Rattle.marks.specs.State.{Raises, RaiseMoves}
 use Rattle.marks.specs.Octets.{cells_in, ImageTouched}
 use Rattle.journal.specs.Floors.{FloorMoves}
@@ -12,14 +13,14 @@ use Rattle.journal.specs.Journals.{JournalTouches}
 use Rattle.journal_laws.specs.Images.{image_state, ImageMoves, RaisedImage}
 
 -- what a raise keeps of a store that has an image, what a cut leaves, and an epoch
-module _ {X : Type 0} (img : X → MutBor (List ℕ)) (leaves : X → CutLeaves) (last : X → Option ℕ) (epoch : X → ℕ) where
+module _ {X : Type 0} (img : X → MutBor (List ℕ)) (power : X → Power) (last : X → Option ℕ) (epoch : X → ℕ) where
   pub record Kept (w : Raised) (s t : X) : Type 0 where
     pub lender : (img t).ghost_name ≡ (img s).ghost_name
     pub floor : epoch t ≡ epoch s
-    pub memory : ImageMoves (leaves s) w (img s).now (img t).now
+    pub memory : ImageMoves (power s).leaves w (img s).now (img t).now
 
   abbrev Touch : X → X → Type 0
-  Touch s t = FloorMoves (JournalTouches (ImageTouched (img s) (leaves s) (img t) (leaves t)) (cells_in (img s).now) (last s) (last t)) (epoch s) (epoch t)
+  Touch s t = FloorMoves (JournalTouches (ImageTouched (img s) (power s) (img t) (power t)) (cells_in (img s).now) (last s) (last t)) (epoch s) (epoch t)
 
   pub kept : (w : Raised) (s t : X) → RaiseMoves Touch s w t → Kept w s t
   kept Off s t e = record { lender = ap (λ x. (img x).ghost_name) e; floor = ap (λ x. epoch x) e; memory = ap (λ x. (img x).now) e }

@@ -6,6 +6,7 @@ use journal::floor::Floor;
 use journal::journal::Journal;
 use marks::image::ImageCells;
 use marks::mark::{CutLeaves, Mark, Pair, Raised};
+use marks::power::Power;
 use marks::store::Store;
 
 // Hands the image back.
@@ -20,10 +21,12 @@ fn raise_on<'a>(
     ensures lender { result.1.ghost_name ≡ image.entry.ghost_name }
     ensures octets { RaisedImage epoch charge leaves pair new result.0 image.old result.1.now }
 {
-    let mut store = Floor::new(
-        Journal::new(ImageCells::new(image, true, charge, leaves)),
-        epoch,
-    );
+    let power = Power {
+        on: true,
+        charge,
+        leaves,
+    };
+    let mut store = Floor::new(Journal::new(ImageCells::new(image, power)), epoch);
     let answer = store.raise(pair, new);
     (answer, store.into_store().into_cells().into_image())
 }

@@ -1,10 +1,12 @@
 -- Cells in octets.
-use Rattle.std.proofs.Common.{◌≡◌, ℕ, ◌+◌, ◌-◌, ◌*◌, ◌/◌, ◌%◌, ◌^◌, ◌<◌, ◌≤◌, cond, eqb, ◌≢◌, ◌⊎◌, List, ◌++◌, length, get_or, take, drop, set, sym, refl, ap, ◌∙◌, subst, inl, inr, ⊎_elim, div-add-mod', arith}
+use Rattle.std.proofs.Common.{◌≡◌, ℕ, zero, suc, ◌+◌, ◌-◌, ◌*◌, ◌/◌, ◌%◌, ◌^◌, ◌<◌, ◌≤◌, cond, eqb, ◌≢◌, ◌⊎◌, List, ◌++◌, length, get_or, take, drop, set, Some, None, Option, sym, refl, ap, ◌∙◌, subst, inl, inr, ⊎_elim, div-add-mod', arith, MatchOption, Bor}
 use native.Mathlib.Nat.{div-div-eq-div-mul}
 use borrow.Rule.Slice.PartMut.{put_mid}
 use Rattle.std.proofs.lemmas.Slice.{take-put_mid_below, drop-put_mid, between_is, between-put_mid}
 use Rattle.std.proofs.lemmas.List.FromFn.{length-map-range_with_len, get_or-map-range_with_len}
-use Rattle.std.proofs.lemmas.List.{length-set, length-append, take_at, drop_at, take_all, same_lists, get_or-set_same, get_or-set_other, get_or_append_left, get_or-append_right, get_or-take, get_or-drop, take-set-le, drop-set-lt, drop-drop, length-take, length-drop}
+use Rattle.std.proofs.lemmas.List.{length-set, length-append, take_at, drop_at, take_all, same_lists, get_or-set_same, get_or-set_other, get_or_append_left, get_or-append_right, get_or_past, get_or-take, get_or-drop, take-set-le, drop-set-lt, drop-drop, length-take, length-drop}
+use Rattle.std.specs.Simd.{first_chunks}
+use Rattle.std.specs.Slice.{IsItemAt}
 use Rattle.std.proofs.lemmas.Bool.{cases_eq, cases_order}
 use Rattle.marks.specs.declared.mark.Cell.{Cell}
 use Rattle.marks.specs.declared.mark.Cell.TheVariants.{Blank, Torn, Held}
@@ -33,6 +35,22 @@ cells-length m = length-map-range_with_len _ 0 (length m / 81)
 
 pub cells_at : (m : List ℕ) (i : ℕ) (d : Cell) → i < length m / 81 → get_or (cells_in m) i d ≡ cell_of (take 81 (drop (i * 81) m))
 cells_at m i d h = get_or-map-range_with_len (λ i. cell_of (take 81 (drop (i * 81) m))) 0 (length m / 81) i i d h (omega arith)
+
+pub chunk_at : (k i : ℕ) (m d : List ℕ) → i < k → get_or (first_chunks 81 k m) i d ≡ take 81 (drop (i * 81) m)
+chunk_at zero i m d h = absurd (omega arith)
+chunk_at (suc k) zero m d h = refl
+chunk_at (suc k) (suc i) m d h =
+    let n : 81 + i * 81 ≡ suc i * 81 = omega arith in
+    chunk_at k i (drop 81 m) d (omega arith) ∙ ap (λ x. take 81 x) (drop-drop (i * 81) 81 m ∙ ap (λ x. drop x m) n)
+
+-- what a look at cell i gives
+pub cell_got : (m : List ℕ) (i : ℕ) (xs : List (List ℕ)) (o : Option (Bor (List ℕ))) (c : Cell) → xs ≡ first_chunks 81 (length m / 81) m → length xs ≡ length m / 81 → IsItemAt xs i o → MatchOption o (c ≡ Torn) (λ b. c ≡ cell_of b.now) → c ≡ get_or (cells_in m) i Torn
+cell_got m i xs None c e l g f =
+    let h : length (cells_in m) ≤ i = omega (arith, cells-length m, g.3) in
+    f ∙ sym (get_or_past (cells_in m) i Torn h)
+cell_got m i xs (Some b) c e l g f =
+    let h : i < length m / 81 = omega (arith, g.3.0) in
+    f ∙ ap cell_of (g.1 ∙ ap (λ x. get_or x i b.now) e ∙ chunk_at (length m / 81) i m b.now h) ∙ sym (cells_at m i Torn h)
 
 abbrev made : List ℕ → List ℕ → ℕ → ℕ → List ℕ → Record
 made s k e n h = record { pair = record { sid = s; kid = k }; mark = record { position = record { epoch = e; counter = n }; hash = h } }

@@ -1,5 +1,6 @@
 pub mod Positions
 pub mod Device
+pub mod Supplies
 pub mod State
 pub mod Table
 pub mod Octets

@@ -7,6 +7,7 @@ use Rattle.marks.specs.declared.mark.Cell.TheVariants.{Blank, Torn, Held}
 use Rattle.marks.specs.declared.mark.Record.{Record}
 use Rattle.marks.specs.declared.mark.CutLeaves.{CutLeaves}
 use Rattle.marks.specs.declared.mark.CutLeaves.TheVariants.{Old, New, Torn as Tears}
+use Rattle.marks.specs.declared.power.Power.{Power}
 use Rattle.marks.specs.declared.mark.Written.{Written}
 use Rattle.marks.specs.declared.mark.Written.TheVariants.{Off, Outside, Cut, Done}
 
@@ -116,14 +117,14 @@ pub record AfterWrite (v : CutLeaves) (m m' : List ℕ) : Type 0 where
   pub after : m' ≡ image_after answer v cell new m
 
 -- the same lender's image, touched in one cell at most, as a write or its cut leaves it
-pub record ImageTouched (a : MutBor (List ℕ)) (v : CutLeaves) (b : MutBor (List ℕ)) (w : CutLeaves) : Type 0 where
+pub record ImageTouched (a : MutBor (List ℕ)) (p : Power) (b : MutBor (List ℕ)) (q : Power) : Type 0 where
   pub lender : b.ghost_name ≡ a.ghost_name
-  pub leaves : w ≡ v
+  pub leaves : q.leaves ≡ p.leaves
   pub octets : OneCell a.now b.now
-  pub written : AfterWrite v a.now b.now
+  pub written : AfterWrite p.leaves a.now b.now
 
 -- the same lender's image, as it was
-pub record ImageKept (a : MutBor (List ℕ)) (v : CutLeaves) (b : MutBor (List ℕ)) (w : CutLeaves) : Type 0 where
+pub record ImageKept (a : MutBor (List ℕ)) (p : Power) (b : MutBor (List ℕ)) (q : Power) : Type 0 where
   pub lender : b.ghost_name ≡ a.ghost_name
-  pub leaves : w ≡ v
+  pub leaves : q.leaves ≡ p.leaves
   pub octets : b.now ≡ a.now

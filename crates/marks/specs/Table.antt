@@ -3,6 +3,7 @@ use Rattle.std.specs.Prelude.{◌≡◌, ℕ, List, length, ◌≢◌}
 use Rattle.marks.specs.declared.mark.Cell.{Cell}
 use Rattle.marks.specs.declared.mark.Record.{Record}
 use Rattle.marks.specs.declared.mark.CutLeaves.{CutLeaves}
+use Rattle.marks.specs.declared.power.Power.{Power}
 use Rattle.marks.specs.declared.mark.Written.{Written}
 use Rattle.marks.specs.Device.{cell_at, cells_after}
 
@@ -20,12 +21,12 @@ pub record AfterStore (v : CutLeaves) (cs ds : List Cell) : Type 0 where
   pub after : ds ≡ cells_after answer v place new cs
 
 -- a table touched at one place at most, as a write or its cut leaves it
-pub record TableTouched (cs : List Cell) (v : CutLeaves) (ds : List Cell) (w : CutLeaves) : Type 0 where
-  pub leaves : w ≡ v
+pub record TableTouched (cs : List Cell) (p : Power) (ds : List Cell) (q : Power) : Type 0 where
+  pub leaves : q.leaves ≡ p.leaves
   pub cells : OnePlace cs ds
-  pub written : AfterStore v cs ds
+  pub written : AfterStore p.leaves cs ds
 
 -- a table as it was
-pub record TableKept (cs : List Cell) (v : CutLeaves) (ds : List Cell) (w : CutLeaves) : Type 0 where
-  pub leaves : w ≡ v
+pub record TableKept (cs : List Cell) (p : Power) (ds : List Cell) (q : Power) : Type 0 where
+  pub leaves : q.leaves ≡ p.leaves
   pub cells : ds ≡ cs

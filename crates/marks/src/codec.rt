@@ -1,5 +1,5 @@
 // A cell in 81 octets: state, sid, kid, epoch, counter, hash.
-ghost use Rattle.std.specs.Prelude.{◌≡◌, length};
+ghost use Rattle.std.specs.Prelude.{◌≡◌, ◌+◌, ◌≤◌, length, take, drop};
 ghost use Rattle.marks.specs.declared.mark.Cell.{Cell};
 ghost use Rattle.marks.specs.Octets.{encoded, cell_of, Sized};
 
@@ -27,32 +27,34 @@ pub(crate) fn encode(cell: &mut [u8], new: Record)
     cell[49..81].copy_from_slice(&new.mark.hash);
 }
 
-pub(crate) fn decode(cell: &[u8]) -> Cell
-    requires { length cell.now ≡ 81 }
+// The N octets from a place on.
+fn part<const N: usize>(cell: &[u8], at: usize) -> [u8; N]
+    requires { at + N ≤ length cell.now }
+    ensures { result ≡ take N (drop at cell.now) }
+{
+    let mut part = [0; N];
+    part.copy_from_slice(&cell[at..at + N]);
+    part
+}
+
+pub(crate) fn decode(cell: &[u8; CELL_SIZE]) -> Cell
     ensures { result ≡ cell_of cell.now }
 {
-    if cell[0] == BLANK {
-        return Cell::Blank;
+    match cell[0] {
+        BLANK => Cell::Blank,
+        RECORD => Cell::Held(Record {
+            mark: Mark {
+                position: Position {
+                    epoch: u64::from_be_bytes(part(cell, 33)),
+                    counter: u64::from_be_bytes(part(cell, 41)),
+                },
+                hash: part(cell, 49),
+            },
+            pair: Pair {
+                sid: part(cell, 1),
+                kid: part(cell, 17),
+            },
+        }),
+        _ => Cell::Torn,
     }
-    if cell[0] != RECORD {
-        return Cell::Torn;
-    }
-    let mut sid = [0u8; 16];
-    sid.copy_from_slice(&cell[1..17]);
-    let mut kid = [0u8; 16];
-    kid.copy_from_slice(&cell[17..33]);
-    let mut epoch = [0u8; 8];
-    epoch.copy_from_slice(&cell[33..41]);
-    let mut counter = [0u8; 8];
-    counter.copy_from_slice(&cell[41..49]);
-    let mut hash = [0u8; 32];
-    hash.copy_from_slice(&cell[49..81]);
-    let position = Position {
-        epoch: u64::from_be_bytes(epoch),
-        counter: u64::from_be_bytes(counter),
-    };
-    Cell::Held(Record {
-        pair: Pair { sid, kid },
-        mark: Mark { position, hash },
-    })
 }

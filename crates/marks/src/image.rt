@@ -6,29 +6,21 @@ ghost use Rattle.marks.specs.Octets.{cells_in, image_after, EachOctet, ImageTouc
 use crate::cells::Cells;
 use crate::codec::{CELL_SIZE, TORN, decode, encode};
 use crate::mark::{Cell, CutLeaves, Record, Written};
+use crate::power::Power;
 
 #[derive(Drop)]
 pub struct ImageCells<'a> {
     image: &'a mut [u8],
-    on: bool,
-    charge: u64,
-    leaves: CutLeaves,
+    power: Power,
 }
 
 impl<'a> ImageCells<'a> {
-    pub fn new(image: &'a mut [u8], on: bool, charge: u64, leaves: CutLeaves) -> ImageCells<'a>
+    pub fn new(image: &'a mut [u8], power: Power) -> ImageCells<'a>
         ensures image { result.image.now ≡ image.old }
         ensures lender { result.image.ghost_name ≡ image.entry.ghost_name }
-        ensures power { result.on ≡ on }
-        ensures charge { result.charge ≡ charge }
-        ensures leaves { result.leaves ≡ leaves }
+        ensures power { result.power ≡ power }
     {
-        ImageCells {
-            image,
-            on,
-            charge,
-            leaves,
-        }
+        ImageCells { image, power }
     }
 
     // The image back.
@@ -36,76 +28,58 @@ impl<'a> ImageCells<'a> {
         ensures image { result.now ≡ self.entry.image.now }
         ensures lender { result.ghost_name ≡ self.entry.image.ghost_name }
     {
-        let ImageCells {
-            image,
-            on: _,
-            charge: _,
-            leaves: _,
-        } = self;
+        let ImageCells { image, .. } = self;
         image
     }
 }
 
 impl<'a> Cells for ImageCells<'a> {
-    ghost device = { λ t. device_of (cells_in t.image.now) t.on t.charge };
+    ghost device = { λ t. device_of (cells_in t.image.now) t.power.on t.power.charge };
 
-    ghost touches = { λ s t. ImageTouched s.image s.leaves t.image t.leaves };
+    ghost touches = { λ s t. ImageTouched s.image s.power t.image t.power };
 
-    ghost rests = { λ s t. ImageKept s.image s.leaves t.image t.leaves };
+    ghost rests = { λ s t. ImageKept s.image s.power t.image t.power };
 
     fn count(&self) -> usize {
         self.image.len() / CELL_SIZE
     }
 
     fn read(&self, i: usize) -> Cell {
-        if i >= self.image.len() / CELL_SIZE {
-            return Cell::Torn;
-        }
-        let at = i * CELL_SIZE;
-        decode(&self.image[at..at + CELL_SIZE])
+        let (cells, _) = self.image.as_chunks::<CELL_SIZE>();
+        cells.get(i).map_or(Cell::Torn, decode)
     }
 
     fn is_on(&self) -> bool {
-        self.on
+        self.power.on
     }
 
     fn charge(&self) -> u64 {
-        self.charge
+        self.power.charge
     }
 
     fn write(&mut self, i: usize, new: Record) -> Written
-        ensures writes { Writes (device_of (cells_in self.old.image.now) self.old.on self.old.charge) i new result (device_of (cells_in self.new.image.now) self.new.on self.new.charge) }
-        ensures memory { WriteMoves (λ s t. ImageTouched s.image s.leaves t.image t.leaves) self.old result self.new }
-        ensures octets { self.new.image.now ≡ image_after result self.old.leaves i new self.old.image.now }
-        ensures each { EachOctet result self.old.leaves i new self.old.image.now self.new.image.now }
+        ensures writes { Writes (device_of (cells_in self.old.image.now) self.old.power.on self.old.power.charge) i new result (device_of (cells_in self.new.image.now) self.new.power.on self.new.power.charge) }
+        ensures memory { WriteMoves (λ s t. ImageTouched s.image s.power t.image t.power) self.old result self.new }
+        ensures octets { self.new.image.now ≡ image_after result self.old.power.leaves i new self.old.image.now }
+        ensures each { EachOctet result self.old.power.leaves i new self.old.image.now self.new.image.now }
     {
-        if !self.on {
+        if !self.power.on {
             return Written::Off;
         }
-        if i >= self.image.len() / CELL_SIZE {
+        if i >= self.count() {
             return Written::Outside;
         }
         let at = i * CELL_SIZE;
-        if self.charge > 0 {
-            encode(&mut self.image[at..at + CELL_SIZE], new);
-            self.charge -= 1;
-            return Written::Done;
-        }
-        self.on = false;
-        match self.leaves {
+        let (written, leaves) = self.power.spend();
+        match leaves {
             CutLeaves::Old => {}
-            CutLeaves::New => {
-                encode(&mut self.image[at..at + CELL_SIZE], new);
-            }
-            CutLeaves::Torn => {
-                self.image[at] = TORN;
-            }
+            CutLeaves::New => encode(&mut self.image[at..at + CELL_SIZE], new),
+            CutLeaves::Torn => self.image[at] = TORN,
         }
-        Written::Cut
+        written
     }
 
     fn switch_on(&mut self, n: u64) {
-        self.on = true;
-        self.charge = n;
+        self.power.switch_on(n);
     }
 }

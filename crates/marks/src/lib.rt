@@ -6,5 +6,6 @@ mod codec;
 pub mod image;
 pub mod mark;
 pub mod order;
+pub mod power;
 pub mod store;
 pub mod table;

@@ -1,34 +1,34 @@
 // The values that cells and stores exchange.
 
 // A sender's id and the id of its key.
-#[derive(Clone, Copy)]
+#[derive(Clone, Copy, PartialEq, Eq)]
 pub struct Pair {
     pub sid: [u8; 16],
     pub kid: [u8; 16],
 }
 
-// Compared by epoch first.
-#[derive(Clone, Copy)]
+// An epoch and a counter, compared by epoch first.
+#[derive(Clone, Copy, PartialEq, Eq, PartialOrd, Ord)]
 pub struct Position {
     pub epoch: u64,
     pub counter: u64,
 }
 
 // A position and the transcript hash of the message that reached it.
-#[derive(Clone, Copy)]
+#[derive(Clone, Copy, PartialEq, Eq)]
 pub struct Mark {
     pub position: Position,
     pub hash: [u8; 32],
 }
 
 // The mark stands first: a pass over cells that compares their pairs then takes a fifth of the time.
-#[derive(Clone, Copy)]
+#[derive(Clone, Copy, PartialEq, Eq)]
 pub struct Record {
     pub mark: Mark,
     pub pair: Pair,
 }
 
-#[derive(Clone, Copy)]
+#[derive(Clone, Copy, PartialEq, Eq)]
 pub enum Cell {
     Blank,
     Torn,
@@ -36,7 +36,7 @@ pub enum Cell {
 }
 
 // What a power cut leaves in the cell that was being written.
-#[derive(Clone, Copy)]
+#[derive(Clone, Copy, PartialEq, Eq)]
 pub enum CutLeaves {
     Old,
     New,
@@ -44,7 +44,7 @@ pub enum CutLeaves {
 }
 
 // How a write of a cell ended.
-#[derive(Clone, Copy)]
+#[derive(Clone, Copy, PartialEq, Eq)]
 pub enum Written {
     Off,
     Outside,
@@ -53,7 +53,7 @@ pub enum Written {
 }
 
 // How a raise of a pair's mark ended.
-#[derive(Clone, Copy)]
+#[derive(Clone, Copy, PartialEq, Eq)]
 pub enum Raised {
     Off,
     Low,

@@ -9,17 +9,14 @@ impl Position {
         ensures is { result ≡ before self other }
         ensures decides { Decides result (Earlier self other) }
     {
-        self.epoch < other.epoch || (self.epoch == other.epoch && self.counter < other.counter)
+        self < other
     }
 
     // Whether this position lies above a pair's mark. Every position lies above no mark.
     pub fn is_above(self, mark: Option<Mark>) -> bool
         ensures { result ≡ above mark self }
     {
-        match mark {
-            None => true,
-            Some(m) => m.position.is_before(self),
-        }
+        mark.is_none_or(|m| m.position < self)
     }
 }
 
@@ -28,8 +25,6 @@ impl Pair {
         ensures is { result ≡ same_pair self other }
         ensures decides { Decides result (self ≡ other) }
     {
-        let sid = self.sid == other.sid;
-        let kid = self.kid == other.kid;
-        sid & kid
+        self == other
     }
 }

@@ -6,121 +6,87 @@ ghost use Rattle.marks.specs.Table.{TableTouched, TableKept};
 
 use crate::cells::Cells;
 use crate::mark::{Cell, CutLeaves, Record, Written};
+use crate::power::Power;
 
 pub const TABLE_CELLS: usize = 16;
 
 #[derive(Drop)]
 pub struct TableCells {
     cells: [Cell; TABLE_CELLS],
-    on: bool,
-    charge: u64,
-    leaves: CutLeaves,
+    power: Power,
     ghost full: { length cells ≡ 16 },
 }
 
 impl TableCells {
     // All cells blank.
-    pub fn new(on: bool, charge: u64, leaves: CutLeaves) -> TableCells
+    pub fn new(power: Power) -> TableCells
         ensures cells { result.cells ≡ replicate 16 Cell.Blank }
-        ensures power { result.on ≡ on }
-        ensures charge { result.charge ≡ charge }
-        ensures leaves { result.leaves ≡ leaves }
+        ensures power { result.power ≡ power }
     {
-        TableCells::with_cells([Cell::Blank; TABLE_CELLS], on, charge, leaves)
+        TableCells::with_cells([Cell::Blank; TABLE_CELLS], power)
     }
 
     // The given cells.
-    pub fn with_cells(
-        cells: [Cell; TABLE_CELLS],
-        on: bool,
-        charge: u64,
-        leaves: CutLeaves,
-    ) -> TableCells
+    pub fn with_cells(cells: [Cell; TABLE_CELLS], power: Power) -> TableCells
         ensures cells { result.cells ≡ cells }
-        ensures power { result.on ≡ on }
-        ensures charge { result.charge ≡ charge }
-        ensures leaves { result.leaves ≡ leaves }
+        ensures power { result.power ≡ power }
     {
-        TableCells {
-            cells,
-            on,
-            charge,
-            leaves,
-        }
+        TableCells { cells, power }
     }
 
     // The cells by themselves.
     pub fn into_cells(self) -> [Cell; TABLE_CELLS]
         ensures { result ≡ self.cells }
     {
-        let TableCells {
-            cells,
-            on: _,
-            charge: _,
-            leaves: _,
-        } = self;
+        let TableCells { cells, .. } = self;
         cells
     }
 }
 
 impl Cells for TableCells {
-    ghost device = { λ t. device_of t.cells t.on t.charge };
+    ghost device = { λ t. device_of t.cells t.power.on t.power.charge };
 
-    ghost touches = { λ s t. TableTouched s.cells s.leaves t.cells t.leaves };
+    ghost touches = { λ s t. TableTouched s.cells s.power t.cells t.power };
 
-    ghost rests = { λ s t. TableKept s.cells s.leaves t.cells t.leaves };
+    ghost rests = { λ s t. TableKept s.cells s.power t.cells t.power };
 
     fn count(&self) -> usize {
         TABLE_CELLS
     }
 
     fn read(&self, i: usize) -> Cell {
-        if i < TABLE_CELLS {
-            self.cells[i]
-        } else {
-            Cell::Torn
-        }
+        self.cells.get(i).copied().unwrap_or(Cell::Torn)
     }
 
     fn is_on(&self) -> bool {
-        self.on
+        self.power.on
     }
 
     fn charge(&self) -> u64 {
-        self.charge
+        self.power.charge
     }
 
     fn write(&mut self, i: usize, new: Record) -> Written
-        ensures writes { Writes (device_of self.old.cells self.old.on self.old.charge) i new result (device_of self.new.cells self.new.on self.new.charge) }
-        ensures memory { WriteMoves (λ s t. TableTouched s.cells s.leaves t.cells t.leaves) self.old result self.new }
-        ensures cells { self.new.cells ≡ cells_after result self.old.leaves i new self.old.cells }
+        ensures writes { Writes (device_of self.old.cells self.old.power.on self.old.power.charge) i new result (device_of self.new.cells self.new.power.on self.new.power.charge) }
+        ensures memory { WriteMoves (λ s t. TableTouched s.cells s.power t.cells t.power) self.old result self.new }
+        ensures cells { self.new.cells ≡ cells_after result self.old.power.leaves i new self.old.cells }
     {
-        if !self.on {
+        if !self.power.on {
             return Written::Off;
         }
         if i >= TABLE_CELLS {
             return Written::Outside;
         }
-        if self.charge > 0 {
-            self.cells[i] = Cell::Held(new);
-            self.charge -= 1;
-            return Written::Done;
-        }
-        self.on = false;
-        match self.leaves {
+        let (written, leaves) = self.power.spend();
+        match leaves {
             CutLeaves::Old => {}
-            CutLeaves::New => {
-                self.cells[i] = Cell::Held(new);
-            }
-            CutLeaves::Torn => {
-                self.cells[i] = Cell::Torn;
-            }
+            CutLeaves::New => self.cells[i] = Cell::Held(new),
+            CutLeaves::Torn => self.cells[i] = Cell::Torn,
         }
-        Written::Cut
+        written
     }
 
     fn switch_on(&mut self, n: u64) {
-        self.on = true;
-        self.charge = n;
+        self.power.switch_on(n);
     }
 }

@@ -9,6 +9,7 @@ use journal::journal::Journal;
 use journal_laws::images::raise_in;
 use marks::image::ImageCells;
 use marks::mark::{CutLeaves, Mark, Pair, Position, Raised};
+use marks::power::Power;
 use marks::store::Store;
 
 // Raises a pair's mark on a journal in the image, under a floor, with power on and so much charge; a cut tears the cell.
@@ -48,7 +49,12 @@ fn mark_on<'a>(image: &'a mut [u8], pair: Pair) -> (Option<Mark>, &'a mut [u8])
     ensures image { result.1.now ≡ image.old }
     ensures mark { result.0 ≡ mark_in (cells_in image.old) pair }
 {
-    let store = Journal::new(ImageCells::new(image, true, 0, CutLeaves::Torn));
+    let power = Power {
+        on: true,
+        charge: 0,
+        leaves: CutLeaves::Torn,
+    };
+    let store = Journal::new(ImageCells::new(image, power));
     let found = store.mark(pair);
     (found, store.into_cells().into_image())
 }

@@ -1,49 +1,45 @@
-use Rattle.std.proofs.Common.{◌<◌, length, sym, refl, ap, arith, rules}
-use Rattle.marks.specs.declared.mark.CutLeaves.TheVariants.{Old, New, Torn}
-use Rattle.marks.specs.declared.mark.Written.TheVariants.{Cut, Done}
+use Rattle.std.proofs.Common.{List, set, sym, ap, ◌∙◌}
+use Rattle.marks.specs.declared.mark.Cell.{Cell}
+use Rattle.marks.specs.declared.mark.Cell.TheVariants.{Held, Torn as TornCell}
 use Rattle.marks.specs.Device.{cells_cut}
+use Rattle.marks.specs.declared.table.TableCells.{TableCells}
+use Rattle.marks.specs.Table.{TableTouched}
 use Rattle.marks.proofs.Tables.{one_set, one_kept}
+use Rattle.marks.proofs.Spending.{spent_moves, spent_leaves, spent_cells}
 use Rattle.marks.proofs.table.TableCellsCells.write.Goals as goal
 
-pub returns-then-self-gt0 : goal.returns-then-self-gt0
-returns-then-self-gt0 c =
+pub returns-in-Old-clause-memory : goal.returns-in-Old-clause-memory
+returns-in-Old-clause-memory c =
+    let i = c.args.i in
     let cs = c.args.self.now.cells in
-    let h : c.args.i < length cs = omega arith in
-    record {
-      writes = record { powered = search rules; inside = h; paid = omega arith; after = refl; still = search rules };
-      memory = record { leaves = refl; cells = one_set cs c.args.i _; written = record { answer = Done; place = c.args.i; new = c.args.new; after = refl } };
-      cells = refl;
-    }
+    let p = c.args.self.now.power in
+    let q = c.spend-written.new.self in
+    let w = c.spend-written.result.0 in
+    let s = c.spend-written.ensures in
+    let after = ap (λ v. cells_cut v i c.args.new cs) (sym c.in-Old.is) ∙ spent_cells w p q _ i c.args.new cs s in
+    let t : TableTouched cs p (cs) q = record { leaves = spent_leaves w p q _ s; cells = one_kept cs; written = record { answer = w; place = i; new = c.args.new; after = after } } in
+    spent_moves {X = TableCells} (λ s t. TableTouched s.cells s.power t.cells t.power) c.args.self.now _ w p q _ s t
 
-pub returns-in-Old : goal.returns-in-Old
-returns-in-Old c =
+pub returns-in-New-clause-memory : goal.returns-in-New-clause-memory
+returns-in-New-clause-memory c =
+    let i = c.args.i in
     let cs = c.args.self.now.cells in
-    let h : c.args.i < length cs = omega arith in
-    let after = sym (ap (λ v. cells_cut v c.args.i c.args.new cs) c.in-Old.is) in
-    record {
-      writes = (Old, record { powered = search rules; inside = h; empty = omega arith; after = refl; off = refl; spent = omega arith });
-      memory = record { leaves = refl; cells = one_kept cs; written = record { answer = Cut; place = c.args.i; new = c.args.new; after = after } };
-      cells = after;
-    }
+    let p = c.args.self.now.power in
+    let q = c.spend-written.new.self in
+    let w = c.spend-written.result.0 in
+    let s = c.spend-written.ensures in
+    let after = ap (λ v. cells_cut v i c.args.new cs) (sym c.in-New.is) ∙ spent_cells w p q _ i c.args.new cs s in
+    let t : TableTouched cs p (set cs i (Held c.args.new)) q = record { leaves = spent_leaves w p q _ s; cells = one_set cs i _; written = record { answer = w; place = i; new = c.args.new; after = after } } in
+    spent_moves {X = TableCells} (λ s t. TableTouched s.cells s.power t.cells t.power) c.args.self.now _ w p q _ s t
 
-pub returns-in-New : goal.returns-in-New
-returns-in-New c =
+pub returns-in-Torn-clause-memory : goal.returns-in-Torn-clause-memory
+returns-in-Torn-clause-memory c =
+    let i = c.args.i in
     let cs = c.args.self.now.cells in
-    let h : c.args.i < length cs = omega arith in
-    let after = sym (ap (λ v. cells_cut v c.args.i c.args.new cs) c.in-New.is) in
-    record {
-      writes = (New, record { powered = search rules; inside = h; empty = omega arith; after = refl; off = refl; spent = omega arith });
-      memory = record { leaves = refl; cells = one_set cs c.args.i _; written = record { answer = Cut; place = c.args.i; new = c.args.new; after = after } };
-      cells = after;
-    }
-
-pub returns-in-Torn : goal.returns-in-Torn
-returns-in-Torn c =
-    let cs = c.args.self.now.cells in
-    let h : c.args.i < length cs = omega arith in
-    let after = sym (ap (λ v. cells_cut v c.args.i c.args.new cs) c.in-Torn.is) in
-    record {
-      writes = (Torn, record { powered = search rules; inside = h; empty = omega arith; after = refl; off = refl; spent = omega arith });
-      memory = record { leaves = refl; cells = one_set cs c.args.i _; written = record { answer = Cut; place = c.args.i; new = c.args.new; after = after } };
-      cells = after;
-    }
+    let p = c.args.self.now.power in
+    let q = c.spend-written.new.self in
+    let w = c.spend-written.result.0 in
+    let s = c.spend-written.ensures in
+    let after = ap (λ v. cells_cut v i c.args.new cs) (sym c.in-Torn.is) ∙ spent_cells w p q _ i c.args.new cs s in
+    let t : TableTouched cs p (set cs i TornCell) q = record { leaves = spent_leaves w p q _ s; cells = one_set cs i _; written = record { answer = w; place = i; new = c.args.new; after = after } } in
+    spent_moves {X = TableCells} (λ s t. TableTouched s.cells s.power t.cells t.power) c.args.self.now _ w p q _ s t
