@@ -1,6 +1,7 @@
 -- What a listening is given.
 use Rattle.std.specs.Prelude.{ℕ, Bool, List}
 use Rattle.judging.specs.declared.answer.Listening.{Listening}
+use Rattle.judging.specs.declared.answer.Lent.{Lent}
 
 -- what a message is judged by besides the store: the clock in seconds, the demodulator's doubt, the track numbers on the list, and what the
 -- verifier means: which kid is known for which alg, and which signature is good for a kid, an alg and a transcript
@@ -26,3 +27,10 @@ module _ {V : Type 0} (known : V → List ℕ → ℕ → Bool) (good : V → Li
 
   abbrev pub inputs_by : V → List ℕ → Listening → List ℕ → ℕ → Inputs
   inputs_by v burst l catalog work = record { burst = burst; count = l.count; start = l.start; work = work; conditions = conditions_by v l catalog }
+
+  -- of what a listening is lent, with so many octets to work in
+  abbrev pub conditions_of : Lent V → Conditions
+  conditions_of lent = conditions_by lent.verifier.now lent.listening lent.catalog.now
+
+  abbrev pub inputs_of : Lent V → ℕ → Inputs
+  inputs_of lent work = inputs_by lent.verifier.now lent.burst.now lent.listening lent.catalog.now work

@@ -13,6 +13,16 @@ pub struct Listening {
     pub suspect: bool,
 }
 
+/// What a listening is lent besides the work buffer: who says that a signature is good, the burst and how it is listened to, and
+/// the track numbers on the list.
+#[derive(Drop)]
+pub struct Lent<'a, V> {
+    pub verifier: &'a V,
+    pub burst: &'a [u8],
+    pub listening: Listening,
+    pub catalog: &'a [u64],
+}
+
 /// What is released: a command, with the pair, position and transcript hash of its message, and the message's octets counted.
 #[derive(Clone, Copy)]
 pub struct Release {

@@ -5,13 +5,13 @@ ghost use Rattle.answers.specs.Questions.{first};
 ghost use Rattle.verdicts.specs.Transcripts.{octets_of};
 ghost use Rattle.marks.specs.Positions.{above};
 ghost use Rattle.marks.specs.State.{State};
-ghost use Rattle.judging.specs.Inputs.{conditions_by};
+ghost use Rattle.judging.specs.Inputs.{conditions_of};
 ghost use Rattle.judging.specs.Frames.{pair_of, mark_by, mark_of, repeats as repeated};
 ghost use Rattle.judging.specs.Questions.{refused};
 ghost use Rattle.judging.specs.Stages.{raise_questions, command_questions, mark_questions, signature_questions, field_questions, message_questions};
 ghost use Rattle.judging.specs.Effects.{offered, Leaves, StoreMoves};
 
-use crate::answer::{Answer, Listening, Release, Verdict};
+use crate::answer::{Answer, Lent, Release, Verdict};
 use answers::refusal::Refusal;
 use commands::{is_listed, request};
 use marks::mark::{Mark, Pair, Position, Raised};
@@ -95,10 +95,9 @@ fn raise<S: Store>(store: &mut S, release: Release, next: usize) -> Answer
 }
 
 // The command, and whether it may be released.
-fn judge_command<S: Store>(
+fn judge_command<S: Store, V>(
     store: &mut S,
-    suspect: bool,
-    catalog: &[u64],
+    lent: &Lent<'_, V>,
     message: Message<'_>,
     mark: Mark,
     next: usize,
@@ -106,8 +105,8 @@ fn judge_command<S: Store>(
     requires on { (S.state store.old).on ≡ true }
     requires higher { above ((S.state store.old).mark (pair_of message.view)) mark.position ≡ true }
     requires mark { mark ≡ mark_of message.octets.now message.view }
-    ensures answer { result ≡ first (command_questions suspect catalog.now (S.state store.old) next message.entry.octets.now message.entry.view) }
-    ensures leaves { Leaves (offered (command_questions suspect catalog.now (S.state store.old) next message.entry.octets.now message.entry.view)) (S.state store.old) result.verdict (S.state store.new) }
+    ensures answer { result ≡ first (command_questions lent.now.listening.suspect lent.now.catalog.now (S.state store.old) next message.entry.octets.now message.entry.view) }
+    ensures leaves { Leaves (offered (command_questions lent.now.listening.suspect lent.now.catalog.now (S.state store.old) next message.entry.octets.now message.entry.view)) (S.state store.old) result.verdict (S.state store.new) }
     ensures memory { StoreMoves S.touches store.old result.verdict store.new }
 {
     let cmd = message.view.cmd;
@@ -117,7 +116,7 @@ fn judge_command<S: Store>(
     let Ok(request) = request(message.octets, cmd.kind, cmd.args.start) else {
         return refuse(Refusal::BadArguments, next);
     };
-    let Some(command) = request.allow(catalog, suspect) else {
+    let Some(command) = request.allow(lent.catalog, lent.listening.suspect) else {
         return refuse(Refusal::AllowlistDeny, next);
     };
     let None = cmd.duo else {
@@ -135,17 +134,15 @@ fn judge_command<S: Store>(
 // The mark, and the clock.
 fn judge_mark<S: Store, V: Verifier>(
     store: &mut S,
-    verifier: &V,
-    listening: Listening,
-    catalog: &[u64],
+    lent: &Lent<'_, V>,
     message: Message<'_>,
     mark: Mark,
     next: usize,
 ) -> Answer
     requires on { (S.state store.old).on ≡ true }
     requires mark { mark ≡ mark_of message.octets.now message.view }
-    ensures answer { result ≡ first (mark_questions (conditions_by V.known V.good verifier.now listening catalog.now) (S.state store.old) next message.entry.octets.now message.entry.view) }
-    ensures leaves { Leaves (offered (mark_questions (conditions_by V.known V.good verifier.now listening catalog.now) (S.state store.old) next message.entry.octets.now message.entry.view)) (S.state store.old) result.verdict (S.state store.new) }
+    ensures answer { result ≡ first (mark_questions (conditions_of V.known V.good lent.now) (S.state store.old) next message.entry.octets.now message.entry.view) }
+    ensures leaves { Leaves (offered (mark_questions (conditions_of V.known V.good lent.now) (S.state store.old) next message.entry.octets.now message.entry.view)) (S.state store.old) result.verdict (S.state store.new) }
     ensures memory { StoreMoves S.touches store.old result.verdict store.new }
 {
     let kept = store.mark(pair_of(&message.view));
@@ -159,56 +156,55 @@ fn judge_mark<S: Store, V: Verifier>(
         return refuse(Refusal::Replay, next);
     };
     let exp = message.view.mid.exp;
-    let true = not_expired(listening.clock, exp) else {
+    let true = not_expired(lent.listening.clock, exp) else {
         return refuse(Refusal::Expired, next);
     };
-    let true = not_too_far(listening.clock, exp) else {
+    let true = not_too_far(lent.listening.clock, exp) else {
         return refuse(Refusal::ExpTooFar, next);
     };
-    judge_command(store, listening.suspect, catalog, message, mark, next)
+    judge_command(store, lent, message, mark, next)
 }
 
 // The key, and the signature.
 fn judge_signature<S: Store, V: Verifier>(
     store: &mut S,
-    verifier: &V,
-    listening: Listening,
-    catalog: &[u64],
+    lent: &Lent<'_, V>,
     message: Message<'_>,
     next: usize,
 ) -> Answer
     requires on { (S.state store.old).on ≡ true }
-    ensures answer { result ≡ first (signature_questions (conditions_by V.known V.good verifier.now listening catalog.now) (S.state store.old) next message.entry.octets.now message.entry.view) }
-    ensures leaves { Leaves (offered (signature_questions (conditions_by V.known V.good verifier.now listening catalog.now) (S.state store.old) next message.entry.octets.now message.entry.view)) (S.state store.old) result.verdict (S.state store.new) }
+    ensures answer { result ≡ first (signature_questions (conditions_of V.known V.good lent.now) (S.state store.old) next message.entry.octets.now message.entry.view) }
+    ensures leaves { Leaves (offered (signature_questions (conditions_of V.known V.good lent.now) (S.state store.old) next message.entry.octets.now message.entry.view)) (S.state store.old) result.verdict (S.state store.new) }
     ensures memory { StoreMoves S.touches store.old result.verdict store.new }
 {
     let auth = message.view.auth;
-    let true = verifier.knows(&auth.kid, auth.alg) else {
+    let true = lent.verifier.knows(&auth.kid, auth.alg) else {
         return refuse(Refusal::KidUnknown, next);
     };
     let true = message.signature_length_fits() else {
         return refuse(Refusal::SignatureLength, next);
     };
     let transcript = message.transcript();
-    let true = verifier.is_good(&auth.kid, auth.alg, &transcript, message.signature()) else {
+    let true = lent
+        .verifier
+        .is_good(&auth.kid, auth.alg, &transcript, message.signature())
+    else {
         return refuse(Refusal::AuthFail, next);
     };
     let mark = mark_of(&message.view, &transcript);
-    judge_mark(store, verifier, listening, catalog, message, mark, next)
+    judge_mark(store, lent, message, mark, next)
 }
 
 // The fields by themselves.
 fn judge_fields<S: Store, V: Verifier>(
     store: &mut S,
-    verifier: &V,
-    listening: Listening,
-    catalog: &[u64],
+    lent: &Lent<'_, V>,
     message: Message<'_>,
     next: usize,
 ) -> Answer
     requires on { (S.state store.old).on ≡ true }
-    ensures answer { result ≡ first (field_questions (conditions_by V.known V.good verifier.now listening catalog.now) (S.state store.old) next message.entry.octets.now message.entry.view) }
-    ensures leaves { Leaves (offered (field_questions (conditions_by V.known V.good verifier.now listening catalog.now) (S.state store.old) next message.entry.octets.now message.entry.view)) (S.state store.old) result.verdict (S.state store.new) }
+    ensures answer { result ≡ first (field_questions (conditions_of V.known V.good lent.now) (S.state store.old) next message.entry.octets.now message.entry.view) }
+    ensures leaves { Leaves (offered (field_questions (conditions_of V.known V.good lent.now) (S.state store.old) next message.entry.octets.now message.entry.view)) (S.state store.old) result.verdict (S.state store.new) }
     ensures memory { StoreMoves S.touches store.old result.verdict store.new }
 {
     let true = message.profile_matches() else {
@@ -220,26 +216,24 @@ fn judge_fields<S: Store, V: Verifier>(
     let true = message.echo_matches() else {
         return refuse(Refusal::ContextMismatch, next);
     };
-    judge_signature(store, verifier, listening, catalog, message, next)
+    judge_signature(store, lent, message, next)
 }
 
 // The octets of a message.
 pub(crate) fn judge_message<S: Store, V: Verifier>(
     store: &mut S,
-    verifier: &V,
-    listening: Listening,
-    catalog: &[u64],
+    lent: &Lent<'_, V>,
     octets: &[u8],
     next: usize,
 ) -> Answer
     requires on { (S.state store.old).on ≡ true }
-    ensures answer { result ≡ first (message_questions (conditions_by V.known V.good verifier.now listening catalog.now) (S.state store.old) next octets.now) }
-    ensures leaves { Leaves (offered (message_questions (conditions_by V.known V.good verifier.now listening catalog.now) (S.state store.old) next octets.now)) (S.state store.old) result.verdict (S.state store.new) }
+    ensures answer { result ≡ first (message_questions (conditions_of V.known V.good lent.now) (S.state store.old) next octets.now) }
+    ensures leaves { Leaves (offered (message_questions (conditions_of V.known V.good lent.now) (S.state store.old) next octets.now)) (S.state store.old) result.verdict (S.state store.new) }
     ensures memory { StoreMoves S.touches store.old result.verdict store.new }
 {
     let message = match read(octets) {
         Ok(message) => message,
         Err(refusal) => return refuse(refusal, next),
     };
-    judge_fields(store, verifier, listening, catalog, message, next)
+    judge_fields(store, lent, message, next)
 }

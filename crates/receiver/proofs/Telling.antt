@@ -1,8 +1,8 @@
 -- A run, call by call.
-use Rattle.std.proofs.Common.{◌≡◌, ℕ, ◌+◌, ◌-◌, ◌<◌, min, Bool, List, [], ◌∷◌, ◌++◌, length, get_or, take, drop, set, sym, refl, ap, ◌∙◌, subst, arith, Bor}
+use Rattle.std.proofs.Common.{◌≡◌, ℕ, ◌+◌, ◌-◌, ◌<◌, min, Bool, List, [], ◌∷◌, ◌++◌, length, get_or, take, drop, set, sym, refl, ap, ◌∙◌, subst, arith}
 use Rattle.std.proofs.lemmas.List.{take_more, take_more_set, drop-drop, drop-set-lt}
 use Rattle.marks.specs.State.{State}
-use Rattle.judging.specs.declared.answer.Listening.{Listening}
+use Rattle.judging.specs.declared.answer.Lent.{Lent}
 use Rattle.judging.specs.declared.answer.Answer.{Answer}
 use Rattle.receiver.specs.declared.call.Call.{Call}
 use Rattle.receiver.specs.declared.call.Call.TheVariants.{Listen, SwitchOn}
@@ -12,7 +12,8 @@ use Rattle.line.specs.Hearing.{laid}
 use Rattle.judging.specs.Frames.{message_heard}
 use Rattle.judging.specs.Effects.{StoreMoves, left_at}
 use Rattle.receiver.specs.History.{Listens, History, made, listened, switched}
-use Rattle.receiver.specs.Run.{inputs_of, Carries, Tells, nothing, heard, on, Ran}
+use Rattle.judging.specs.Inputs.{inputs_of}
+use Rattle.receiver.specs.Run.{Carries, Tells, nothing, heard, on, Ran}
 use Rattle.receiver.proofs.Law.{law}
 
 module _ {S V : Type 0} (state : S → State) (touches rests : S → S → Type 0) (known : V → List ℕ → ℕ → Bool) (good : V → List ℕ → ℕ → List ℕ → List ℕ → Bool) where
@@ -28,9 +29,9 @@ module _ {S V : Type 0} (state : S → State) (touches rests : S → S → Type 
 
   one : (s t u : S) (before buffer after : List ℕ) (cs : List (Call V)) (rs : List Reply) (c : Call V) (r : Reply) → Told s before cs rs t buffer → Carries state touches rests known good t buffer c r u after
       → Told s before (cs ++ (c ∷ [])) (rs ++ (r ∷ [])) u after
-  one s t u before buffer after cs rs (Listen burst l catalog work v) (Heard a) x y =
-      record { history = listened x.history (inputs_of state touches rests known good v burst l catalog (min work (length buffer))) a y.meaning; tells = heard burst l catalog work v a x.tells y }
-  one s t u before buffer after cs rs (Listen burst l catalog work v) On x y = absurd y
+  one s t u before buffer after cs rs (Listen lent work) (Heard a) x y =
+      record { history = listened x.history (inputs_of known good lent (min work (length buffer))) a y.meaning; tells = heard lent work a x.tells y }
+  one s t u before buffer after cs rs (Listen lent work) On x y = absurd y
   one s t u before buffer after cs rs (SwitchOn n) (Heard a) x y = absurd y
   one s t u before buffer after cs rs (SwitchOn n) On x y = record { history = switched x.history n y.meaning; tells = on n x.tells y }
 
@@ -54,19 +55,19 @@ module _ {S V : Type 0} (state : S → State) (touches rests : S → S → Type 
       record { count = m; run = record { history = y.told.history; tells = y.told.tells; lawful = law y.told.history }; rest = y.rest }
 
   -- a listening is what its call asks for
-  pub hears : (s t : S) (before : List ℕ) (burst : Bor (List ℕ)) (l : Listening) (catalog : Bor (List ℕ)) (work : ℕ) (v : Bor V) (a : Answer) (c : Call V) (lent n : ℕ) (w : List ℕ)
-      → c ≡ Listen burst l catalog work v → n ≡ min work (length before) → lent ≡ n
-      → Listens (inputs_of state touches rests known good v burst l catalog lent) (state s) a (state t) → StoreMoves touches s a.verdict t
-      → w ≡ laid lent (left_at a.verdict (message_heard (inputs_of state touches rests known good v burst l catalog lent)))
+  pub hears : (s t : S) (before : List ℕ) (lent : Lent V) (work : ℕ) (a : Answer) (c : Call V) (part n : ℕ) (w : List ℕ)
+      → c ≡ Listen lent work → n ≡ min work (length before) → part ≡ n
+      → Listens (inputs_of known good lent part) (state s) a (state t) → StoreMoves touches s a.verdict t
+      → w ≡ laid part (left_at a.verdict (message_heard (inputs_of known good lent part)))
       → Carries state touches rests known good s before c (Heard a) t (w ++ drop (n - 0) (drop 0 before))
-  hears s t before burst l catalog work v a c lent n w e m k x y z =
+  hears s t before lent work a c part n w e m k x y z =
       let d = k ∙ m in
       let o : n - 0 ≡ min work (length before) = omega arith in
       subst (λ (f : Call V). Carries state touches rests known good s before f (Heard a) t (w ++ drop (n - 0) (drop 0 before))) (sym e)
       (record {
-        meaning = subst (λ (j : ℕ). Listens (inputs_of state touches rests known good v burst l catalog j) (state s) a (state t)) d x;
+        meaning = subst (λ (j : ℕ). Listens (inputs_of known good lent j) (state s) a (state t)) d x;
         memory = y;
         buffer =
             ap (λ (j : ℕ). w ++ drop j before) o
-            ∙ ap (λ (u : List ℕ). u ++ drop (min work (length before)) before) (z ∙ ap (λ (j : ℕ). laid j (left_at a.verdict (message_heard (inputs_of state touches rests known good v burst l catalog j)))) d);
+            ∙ ap (λ (u : List ℕ). u ++ drop (min work (length before)) before) (z ∙ ap (λ (j : ℕ). laid j (left_at a.verdict (message_heard (inputs_of known good lent j)))) d);
       })

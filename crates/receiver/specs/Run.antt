@@ -1,11 +1,10 @@
 -- A list of calls, carried out one after the other.
 use Rattle.std.specs.Prelude.{◌≡◌, ℕ, min, Bool, List, [], ◌∷◌, ◌++◌, length, take, drop}
-use Rattle.std.specs.Borrow.{Bor}
 use Rattle.line.specs.Hearing.{laid}
 use Rattle.marks.specs.State.{State, SwitchedOn}
-use Rattle.judging.specs.declared.answer.Listening.{Listening}
+use Rattle.judging.specs.declared.answer.Lent.{Lent}
 use Rattle.judging.specs.declared.answer.Answer.{Answer}
-use Rattle.judging.specs.Inputs.{Inputs, inputs_by}
+use Rattle.judging.specs.Inputs.{Inputs, inputs_of}
 use Rattle.judging.specs.Frames.{message_heard}
 use Rattle.judging.specs.Effects.{StoreMoves, left_at}
 use Rattle.receiver.specs.declared.call.Call.{Call}
@@ -20,10 +19,6 @@ buffer_after n i a before = laid n (left_at a.verdict (message_heard i)) ++ drop
 
 -- over a kind of store and a kind of verifier
 module _ {S V : Type 0} (state : S → State) (touches rests : S → S → Type 0) (known : V → List ℕ → ℕ → Bool) (good : V → List ℕ → ℕ → List ℕ → List ℕ → Bool) where
-  -- the inputs of a call that listens with n octets to work in
-  abbrev pub inputs_of : Bor V → Bor (List ℕ) → Listening → Bor (List ℕ) → ℕ → Inputs
-  inputs_of v burst l catalog n = inputs_by known good v.now burst.now l catalog.now n
-
   -- a listening, in its meaning, in the store's memory and in the buffer
   pub record ListenDone (s : S) (before : List ℕ) (i : Inputs) (n : ℕ) (a : Answer) (t : S) (after : List ℕ) : Type 0 where
     pub meaning : Listens i (state s) a (state t)
@@ -38,17 +33,17 @@ module _ {S V : Type 0} (state : S → State) (touches rests : S → S → Type 
 
   -- one call and its reply: the store and the buffer before it, and after it
   abbrev pub Carries : S → List ℕ → Call V → Reply → S → List ℕ → Type 0
-  Carries s before (Listen burst l catalog work v) (Heard a) t after = ListenDone s before (inputs_of v burst l catalog (min work (length before))) (min work (length before)) a t after
-  Carries s before (Listen burst l catalog work v) On t after = ⊥
+  Carries s before (Listen lent work) (Heard a) t after = ListenDone s before (inputs_of known good lent (min work (length before))) (min work (length before)) a t after
+  Carries s before (Listen lent work) On t after = ⊥
   Carries s before (SwitchOn n) (Heard a) t after = ⊥
   Carries s before (SwitchOn n) On t after = SwitchDone s before n t after
 
   -- the history from s on that calls and their replies tell
   pub data Tells (s : S) (before : List ℕ) : List (Call V) → List Reply → (t : S) → List ℕ → History (state t) → Type 0 where
     nothing : Tells s before [] [] s before (made (state s))
-    heard : {cs : List (Call V)} {rs : List Reply} {t u : S} {buffer after : List ℕ} {h : History (state t)} (burst : Bor (List ℕ)) (l : Listening) (catalog : Bor (List ℕ)) (work : ℕ) (v : Bor V) (a : Answer)
-        → Tells s before cs rs t buffer h → (x : ListenDone t buffer (inputs_of v burst l catalog (min work (length buffer))) (min work (length buffer)) a u after)
-        → Tells s before (cs ++ (Listen burst l catalog work v ∷ [])) (rs ++ (Heard a ∷ [])) u after (listened h (inputs_of v burst l catalog (min work (length buffer))) a x.meaning)
+    heard : {cs : List (Call V)} {rs : List Reply} {t u : S} {buffer after : List ℕ} {h : History (state t)} (lent : Lent V) (work : ℕ) (a : Answer)
+        → Tells s before cs rs t buffer h → (x : ListenDone t buffer (inputs_of known good lent (min work (length buffer))) (min work (length buffer)) a u after)
+        → Tells s before (cs ++ (Listen lent work ∷ [])) (rs ++ (Heard a ∷ [])) u after (listened h (inputs_of known good lent (min work (length buffer))) a x.meaning)
     on : {cs : List (Call V)} {rs : List Reply} {t u : S} {buffer after : List ℕ} {h : History (state t)} (n : ℕ)
         → Tells s before cs rs t buffer h → (x : SwitchDone t buffer n u after)
         → Tells s before (cs ++ (SwitchOn n ∷ [])) (rs ++ (On ∷ [])) u after (switched h n x.meaning)

@@ -2,14 +2,14 @@
 ghost use Rattle.std.specs.Prelude.{◌≡◌, ℕ, length};
 ghost use Rattle.answers.specs.Questions.{first};
 ghost use Rattle.line.specs.Hearing.{laid};
-ghost use Rattle.judging.specs.Inputs.{inputs_by};
+ghost use Rattle.judging.specs.Inputs.{inputs_of};
 ghost use Rattle.judging.specs.Frames.{message_heard};
 ghost use Rattle.judging.specs.Questions.{questions};
 ghost use Rattle.judging.specs.Effects.{StoreMoves, left_at};
 ghost use Rattle.receiver.specs.History.{made, Lawful, Law, ListenGoesOn, SwitchGoesOn};
 ghost use Rattle.receiver.specs.Frames.{SentIf, WrittenIsJudged};
 
-use judging::answer::{Answer, Listening};
+use judging::answer::{Answer, Lent};
 use judging::judge;
 use marks::mark::{Mark, Pair};
 use marks::store::Store;
@@ -55,22 +55,15 @@ impl<S: Store> Receiver<S> {
 
     /// Listens to a burst. The answer is that of the first question with a no, or the release; the work buffer then holds the
     /// message and zeros behind it, and after any other answer zeros alone.
-    pub fn listen<V: Verifier>(
-        &mut self,
-        verifier: &V,
-        burst: &[u8],
-        listening: Listening,
-        catalog: &[u64],
-        work: &mut [u8],
-    ) -> Answer
-        ensures answer { result ≡ first (questions (inputs_by V.known V.good verifier.now burst.now listening catalog.now (length work.old)) (S.state self.old.store)) }
-        ensures work { work.new ≡ laid (length work.old) (left_at result.verdict (message_heard (inputs_by V.known V.good verifier.now burst.now listening catalog.now (length work.old)))) }
+    pub fn listen<V: Verifier>(&mut self, lent: &Lent<'_, V>, work: &mut [u8]) -> Answer
+        ensures answer { result ≡ first (questions (inputs_of V.known V.good lent.now (length work.old)) (S.state self.old.store)) }
+        ensures work { work.new ≡ laid (length work.old) (left_at result.verdict (message_heard (inputs_of V.known V.good lent.now (length work.old)))) }
         ensures memory { StoreMoves S.touches self.old.store result.verdict self.new.store }
-        ensures lawful { ListenGoesOn (inputs_by V.known V.good verifier.now burst.now listening catalog.now (length work.old)) (S.state self.old.store) result (S.state self.new.store) }
-        ensures sent { SentIf (inputs_by V.known V.good verifier.now burst.now listening catalog.now (length work.old)) result.verdict result.next }
+        ensures lawful { ListenGoesOn (inputs_of V.known V.good lent.now (length work.old)) (S.state self.old.store) result (S.state self.new.store) }
+        ensures sent { SentIf (inputs_of V.known V.good lent.now (length work.old)) result.verdict result.next }
         ensures written { WrittenIsJudged }
         ensures law { Law }
     {
-        judge(&mut self.store, verifier, burst, listening, catalog, work)
+        judge(&mut self.store, lent, work)
     }
 }

@@ -16,15 +16,9 @@ pub fn carry_out<S: Store, V: Verifier>(
     ensures { Carries S.state S.touches S.rests V.known V.good receiver.old.store buffer.old call.now result receiver.new.store buffer.new }
 {
     match call {
-        Call::Listen {
-            burst,
-            listening,
-            catalog,
-            work,
-            verifier,
-        } => {
+        Call::Listen { lent, work } => {
             let n = (*work).min(buffer.len());
-            Reply::Heard(receiver.listen(*verifier, burst, *listening, catalog, &mut buffer[0..n]))
+            Reply::Heard(receiver.listen(lent, &mut buffer[0..n]))
         }
         Call::SwitchOn(n) => {
             receiver.switch_on(*n);

@@ -2,7 +2,7 @@ use Rattle.std.proofs.Common.{◌≡◌, true, length, Option, sym, ap, ◌∙�
 use Rattle.line.specs.Hearing.{laid}
 use Rattle.judging.specs.declared.answer.Answer.{Answer}
 use Rattle.judging.specs.declared.answer.Release.{Release}
-use Rattle.judging.specs.Inputs.{inputs_by}
+use Rattle.judging.specs.Inputs.{inputs_of}
 use Rattle.judging.specs.Frames.{message_heard}
 use Rattle.judging.specs.Stages.{message_questions}
 use Rattle.judging.specs.Questions.{questions}
@@ -12,7 +12,7 @@ use Rattle.judging.proofs.bursts.judge.Goals as goal
 
 pub returns-in_default-hearing : goal.returns-in_default-hearing
 returns-in_default-hearing g c =
-    let i = inputs_by g.V.Verifier.known g.V.Verifier.good c.args.verifier.now c.args.burst.now c.args.listening c.args.catalog.now (length c.args.work.now) in
+    let i = inputs_of g.V.Verifier.known g.V.Verifier.good c.args.lent.now (length c.args.work.now) in
     let s = g.S.Store.state c.args.store.now in
     let on : s.on ≡ true = sym c.in-true.ensures in
     let j = judged-none i s c.in_default.ensures on c.hear-heard.result c.hear-heard.ensures.answer c.in_default-hearing.not-Frame in
@@ -29,12 +29,12 @@ returns-in_default-hearing g c =
 
 pub overflow_sub-size : goal.overflow_sub-size
 overflow_sub-size g c =
-    let i = inputs_by g.V.Verifier.known g.V.Verifier.good c.args.verifier.now c.args.burst.now c.args.listening c.args.catalog.now (length c.args.work.now) in
+    let i = inputs_of g.V.Verifier.known g.V.Verifier.good c.args.lent.now (length c.args.work.now) in
     (judged-frame i (g.S.Store.state c.args.store.now) c.in_default.ensures (sym c.in-true.ensures) c.hear-heard.result c.in-Frame.length c.hear-heard.ensures.answer c.in-Frame.is).fcs
 
 pub judge_frame-requires : goal.judge_frame-requires
 judge_frame-requires g c =
-    let i = inputs_by g.V.Verifier.known g.V.Verifier.good c.args.verifier.now c.args.burst.now c.args.listening c.args.catalog.now (length c.args.work.now) in
+    let i = inputs_of g.V.Verifier.known g.V.Verifier.good c.args.lent.now (length c.args.work.now) in
     let j = judged-frame i (g.S.Store.state c.args.store.now) c.in_default.ensures (sym c.in-true.ensures) c.hear-heard.result c.in-Frame.length c.hear-heard.ensures.answer c.in-Frame.is in
     record {
       on = sym c.in-true.ensures;
@@ -43,7 +43,7 @@ judge_frame-requires g c =
 
 pub returns : goal.returns
 returns g c =
-    let i = inputs_by g.V.Verifier.known g.V.Verifier.good c.args.verifier.now c.args.burst.now c.args.listening c.args.catalog.now (length c.args.work.now) in
+    let i = inputs_of g.V.Verifier.known g.V.Verifier.good c.args.lent.now (length c.args.work.now) in
     let s = g.S.Store.state c.args.store.now in
     let j = judged-frame i s c.in_default.ensures (sym c.in-true.ensures) c.hear-heard.result c.in-Frame.length c.hear-heard.ensures.answer c.in-Frame.is in
     let front = front-is _ c.hear-heard.new.work c.in-Frame.length (length c.args.work.now) c.hear-heard.ensures.work j.long j.fcs ∙ sym j.message in
