@@ -8,11 +8,7 @@ use Rattle.std.proofs.lemmas.Bool.{and_parts, leb-true, ltb-true, true≢false}
 use Rattle.std.proofs.lemmas.Bool.Decides.{nat_tests}
 use Rattle.text.specs.Table.{tails, low, high, within, text_after, is_text}
 use Rattle.text.specs.Laws.{TextIsUtf8}
-use Rattle.text.proofs.Steps.{any}
-
-lead : (n a : ℕ) (bs : List ℕ) → tails a ≡ n → n < 4 → is_text (a ∷ bs) ≡ text_after n (low a) (high a) bs
-unfolding text_after
-lead n a bs e few = let t : ltb (tails a) 4 ≡ true = grind (arith, nat_tests) in let s : is_text (a ∷ bs) ≡ text_after (tails a) (low a) (high a) bs = rw t in s ∙ ap (λ k. text_after k (low a) (high a) bs) e
+use Rattle.text.proofs.Steps.{any, lead}
 
 next-on : (n lo hi b : ℕ) (bs : List ℕ) → lo ≤ b → b ≤ hi → text_after (suc n) lo hi (b ∷ bs) ≡ text_after n 0x80 0xBF bs
 unfolding text_after

@@ -1,9 +1,8 @@
--- How text is read, octet by octet.
-use Rattle.std.proofs.Common.{◌≡◌, ℕ, zero, suc, ◌+◌, ◌-◌, ◌<◌, ◌≤◌, Bool, true, false, ◌&&◌, eqb, ltb, leb, List, [], ◌∷◌, length, get_or, drop, sym, refl, ◌∙◌, subst, arith}
-use Rattle.std.proofs.lemmas.List.{at_drop_more, at_drop_all}
-use Rattle.std.proofs.lemmas.Bool.{ne_eqb}
+-- How text is read, character by character.
+use Rattle.std.proofs.Common.{◌≡◌, ℕ, zero, suc, ◌-◌, ◌<◌, ◌≤◌, Bool, true, false, ◌&&◌, ltb, List, [], ◌∷◌, length, get_or, take, drop, refl, ap, ◌∙◌, arith}
+use Rattle.std.proofs.lemmas.List.{take_all, length-drop}
 use Rattle.std.proofs.lemmas.Bool.Decides.{nat_tests}
-use Rattle.text.specs.Table.{tails, low, high, within, text_after}
+use Rattle.text.specs.Table.{tails, low, high, within, text_after, is_text}
 
 -- with none due, the limits do not matter
 pub any : (lo hi lo' hi' : ℕ) (bs : List ℕ) → text_after 0 lo hi bs ≡ text_after 0 lo' hi' bs
@@ -11,48 +10,57 @@ unfolding text_after
 any lo hi lo' hi' [] = refl
 any lo hi lo' hi' (b ∷ bs) = refl
 
-pub done : (n lo hi : ℕ) (os : List ℕ) (i : ℕ) → length os ≤ i → text_after n lo hi (drop i os) ≡ eqb n 0
+-- a first octet with n tails
+pub lead : (n a : ℕ) (bs : List ℕ) → tails a ≡ n → n < 4 → is_text (a ∷ bs) ≡ text_after n (low a) (high a) bs
 unfolding text_after
-done zero lo hi os i out = at_drop_all (text_after 0 lo hi) os i out
-done (suc n) lo hi os i out = at_drop_all (text_after (suc n) lo hi) os i out ∙ sym (ne_eqb (suc n) 0 (λ z. omega arith))
+lead n a bs e few = let t : ltb (tails a) 4 ≡ true = grind (arith, nat_tests) in let s : is_text (a ∷ bs) ≡ text_after (tails a) (low a) (high a) bs = rw t in s ∙ ap (λ k. text_after k (low a) (high a) bs) e
 
-module _ (lo hi : ℕ) (os : List ℕ) (i : ℕ) (in-it : i < length os) where
-  abbrev octet : ℕ
-  octet = get_or os i 0
+-- and an octet that is no first one
+pub no_lead : (a : ℕ) (bs : List ℕ) → tails a ≡ 4 → is_text (a ∷ bs) ≡ false
+unfolding text_after
+no_lead a bs e = rw e
 
-  first : text_after 0 lo hi (drop i os) ≡ (ltb (tails octet) 4 && text_after (tails octet) (low octet) (high octet) (drop (i + 1) os))
-  unfolding text_after
-  first = at_drop_more (text_after 0 lo hi) os i 0 in-it
+-- fewer octets than are due
+no : (b : Bool) {d : Bool} → d ≡ false → (b && d) ≡ false
+no true e = e
+no false e = refl
 
-  pub first_bad : tails octet ≡ 4 → text_after 0 lo hi (drop i os) ≡ false
-  first_bad bad = first ∙ rw bad
+short : (n lo hi : ℕ) (bs : List ℕ) → length bs < n → text_after n lo hi bs ≡ false
+unfolding text_after
+short zero lo hi bs l = absurd (omega arith)
+short (suc n) lo hi [] l = refl
+short (suc n) lo hi (b ∷ bs) l = let e = short n 0x80 0xBF bs (omega arith) in no (within lo hi b) e
 
-  pub first_on : tails octet < 4 → text_after 0 lo hi (drop i os) ≡ text_after (tails octet) (low octet) (high octet) (drop (i + 1) os)
-  first_on few = first ∙ (let e : ltb (tails octet) 4 ≡ true = grind (arith, nat_tests) in rw e)
+pub cut : (n a : ℕ) (bs : List ℕ) → tails a ≡ n → n < 4 → length bs < n → is_text (a ∷ bs) ≡ false
+cut n a bs e few l = lead n a bs e few ∙ short n (low a) (high a) bs l
 
-  pub ascii_on : (lo' hi' : ℕ) → octet < 128 → text_after 0 lo hi (drop i os) ≡ text_after 0 lo' hi' (drop (i + 1) os)
-  ascii_on lo' hi' small =
-      let e : tails octet ≡ 0 = grind (arith, nat_tests) in
-      let s : (ltb (tails octet) 4 && text_after (tails octet) (low octet) (high octet) (drop (i + 1) os)) ≡ text_after 0 (low octet) (high octet) (drop (i + 1) os) = rw e in
-      first ∙ s ∙ any _ _ lo' hi' (drop (i + 1) os)
+-- what stands behind k octets
+pub behind : (k : ℕ) (bs : List ℕ) → take (length bs - k) (drop k bs) ≡ drop k bs
+behind k bs = take_all (length bs - k) (drop k bs) (omega (arith, length-drop k bs))
 
-  module _ (n : ℕ) (some : n ≡ 0 → ⊥) where
-    tail : text_after n lo hi (drop i os) ≡ (within lo hi octet && text_after (n - 1) 0x80 0xBF (drop (i + 1) os))
-    unfolding text_after
-    tail =
-        let e : n ≡ suc (n - 1) = omega arith in
-        let P : ℕ → Type 0 = λ k. text_after k lo hi (drop i os) ≡ (within lo hi octet && text_after (n - 1) 0x80 0xBF (drop (i + 1) os)) in
-        subst P (sym e) (at_drop_more (text_after (suc (n - 1)) lo hi) os i 0 in-it)
+pub no_tails : (a : ℕ) (bs : List ℕ) → tails a ≡ 0 → is_text (a ∷ bs) ≡ is_text bs
+no_tails a bs e = lead 0 a bs e (omega arith) ∙ any (low a) (high a) 0x80 0xBF bs
 
-    pub tail-low : octet < lo → text_after n lo hi (drop i os) ≡ false
-    tail-low bad = tail ∙ (let e : leb lo octet ≡ false = grind (arith, nat_tests) in rw e)
+pub one_tail : (a : ℕ) (bs : List ℕ) → tails a ≡ 1 → 1 ≤ length bs → is_text (a ∷ bs) ≡ (within (low a) (high a) (get_or bs 0 0) && is_text (drop 1 bs))
+unfolding text_after
+one_tail a [] e l = absurd (omega arith)
+one_tail a (b ∷ bs) e l = lead 1 a (b ∷ bs) e (omega arith)
 
-    pub tail-high : hi < octet → text_after n lo hi (drop i os) ≡ false
-    tail-high bad = tail ∙ (let e : within lo hi octet ≡ false = grind (arith, nat_tests) in rw e)
+pub two_tails : (a : ℕ) (bs : List ℕ) → tails a ≡ 2 → 2 ≤ length bs → is_text (a ∷ bs) ≡ (within (low a) (high a) (get_or bs 0 0) && (within 0x80 0xBF (get_or bs 1 0) && is_text (drop 2 bs)))
+unfolding text_after
+two_tails a [] e l = absurd (omega arith)
+two_tails a (b ∷ []) e l = absurd (omega arith)
+two_tails a (b ∷ d ∷ bs) e l = lead 2 a (b ∷ d ∷ bs) e (omega arith)
 
-    pub tail-on : lo ≤ octet → octet ≤ hi → text_after n lo hi (drop i os) ≡ text_after (n - 1) 0x80 0xBF (drop (i + 1) os)
-    tail-on l h = tail ∙ (let e : within lo hi octet ≡ true = grind (arith, nat_tests) in rw e)
+pub three_tails : (a : ℕ) (bs : List ℕ) → tails a ≡ 3 → 3 ≤ length bs
+    → is_text (a ∷ bs) ≡ (within (low a) (high a) (get_or bs 0 0) && (within 0x80 0xBF (get_or bs 1 0) && (within 0x80 0xBF (get_or bs 2 0) && is_text (drop 3 bs))))
+unfolding text_after
+three_tails a [] e l = absurd (omega arith)
+three_tails a (b ∷ []) e l = absurd (omega arith)
+three_tails a (b ∷ d ∷ []) e l = absurd (omega arith)
+three_tails a (b ∷ d ∷ f ∷ bs) e l = lead 3 a (b ∷ d ∷ f ∷ bs) e (omega arith)
 
--- the state under other names
-pub state : {n lo hi n' lo' hi' : ℕ} (bs : List ℕ) {b : Bool} → n ≡ n' → lo ≡ lo' → hi ≡ hi' → text_after n' lo' hi' bs ≡ b → text_after n lo hi bs ≡ b
-state bs p q r h = rw (p, q, r) h
+pub ended : (bs : List ℕ) → length bs ≡ 0 → is_text bs ≡ true
+unfolding text_after
+ended [] l = refl
+ended (b ∷ bs) l = absurd (omega arith)

@@ -1,79 +1,71 @@
 // Whether octets are UTF-8 text (RFC 3629).
 #![tactic(auto)]
 
-ghost use Rattle.std.specs.Prelude.{◌≡◌};
+ghost use Rattle.std.specs.Prelude.{◌≡◌, ◌<◌, ◌≤◌, ◌∷◌, false, MatchOption, length};
 ghost use Rattle.text.specs.Laws.{TextIsUtf8};
-ghost use Rattle.text.specs.Table.{is_text, tails, low, high};
+ghost use Rattle.text.specs.Table.{is_text, tails, low, high, within};
 
-// The bounds of an octet inside a character.
-const TAIL_LOW: u8 = 0x80;
-
-const TAIL_HIGH: u8 = 0xBF;
-// The number of tails of an octet that begins no character.
-const NO_CHARACTER: u8 = 4;
-
-// How many octets follow the first octet of a character.
-fn tails_of(first: u8) -> u8
-    ensures { result ≡ tails first }
+// How many octets follow the first octet of a character, if it is one.
+fn tails_of(first: u8) -> Option<u8>
+    ensures { MatchOption result (tails first ≡ 4) (λ n. (n ≡ tails first) × (n < 4)) }
 {
     match first {
-        0..=0x7F => 0,
-        0xC2..=0xDF => 1,
-        0xE0..=0xEF => 2,
-        0xF0..=0xF4 => 3,
-        _ => NO_CHARACTER,
+        0..=0x7F => Some(0),
+        0xC2..=0xDF => Some(1),
+        0xE0..=0xEF => Some(2),
+        0xF0..=0xF4 => Some(3),
+        _ => None,
     }
 }
 
-// The lowest second octet: none that would make the form overlong.
-fn low_of(first: u8) -> u8
-    ensures { result ≡ low first }
+// Whether an octet may stand behind a character's first: none makes the form overlong, a surrogate, or a character above 10FFFF.
+fn may_follow(first: u8, second: u8) -> bool
+    ensures { result ≡ within (low first) (high first) second }
 {
     match first {
-        0xE0 => 0xA0,
-        0xF0 => 0x90,
-        _ => TAIL_LOW,
+        0xE0 => matches!(second, 0xA0..=0xBF),
+        0xED => matches!(second, 0x80..=0x9F),
+        0xF0 => matches!(second, 0x90..=0xBF),
+        0xF4 => matches!(second, 0x80..=0x8F),
+        _ => is_tail(second),
     }
 }
 
-// The highest second octet: no surrogates and nothing above 10FFFF.
-fn high_of(first: u8) -> u8
-    ensures { result ≡ high first }
+// Whether an octet may stand further behind.
+fn is_tail(octet: u8) -> bool
+    ensures { result ≡ within 0x80 0xBF octet }
 {
-    match first {
-        0xED => 0x9F,
-        0xF4 => 0x8F,
-        _ => TAIL_HIGH,
+    matches!(octet, 0x80..=0xBF)
+}
+
+// What stands behind the tails of a character, if they are whole and may follow its first octet.
+fn behind_tails(first: u8, octets: &[u8]) -> Option<&[u8]>
+    ensures { MatchOption result (is_text (first ∷ octets.now) ≡ false) (λ rest. (is_text (first ∷ octets.now) ≡ is_text rest.now) × (length rest.now ≤ length octets.now)) }
+{
+    match (tails_of(first)?, octets) {
+        (0, rest) => Some(rest),
+        (1, [second, rest @ ..]) if may_follow(first, *second) => Some(rest),
+        (2, [second, third, rest @ ..]) if may_follow(first, *second) && is_tail(*third) => {
+            Some(rest)
+        }
+        (3, [second, third, fourth, rest @ ..])
+            if may_follow(first, *second) && is_tail(*third) && is_tail(*fourth) => { Some(rest) }
+        _ => None,
     }
 }
 
+// Kept: `str::from_utf8` answers the same, as `utf8` says; the rules give text by its table of octets, so each bound of the table stands here and is tried by an edit.
 /// Whether the octets are UTF-8: whole characters, none overlong, no surrogate, none above 10FFFF.
 pub fn is_text(octets: &[u8]) -> bool
     ensures is { result ≡ is_text octets.now }
     ensures utf8 { TextIsUtf8 }
 {
-    let mut due: u8 = 0;
-    let mut least: u8 = TAIL_LOW;
-    let mut most: u8 = TAIL_HIGH;
-    for b in octets {
-        let octet = *b;
-        if due == 0 {
-            if octet >= 0x80 {
-                due = tails_of(octet);
-                if due == NO_CHARACTER {
-                    return false;
-                }
-                least = low_of(octet);
-                most = high_of(octet);
-            }
-        } else {
-            if octet < least || octet > most {
-                return false;
-            }
-            due -= 1;
-            least = TAIL_LOW;
-            most = TAIL_HIGH;
-        }
+    let mut rest = octets;
+    while let Some((first, behind)) = rest.split_first() {
+        let Some(next) = behind_tails(*first, behind) else {
+            return false;
+        };
+        rest = next;
     }
-    due == 0
+    true
 }
