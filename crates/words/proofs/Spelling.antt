@@ -1,7 +1,10 @@
 -- Digits and the octets that they spell.
-use Rattle.std.proofs.Common.{◌≡◌, ℕ, zero, suc, ◌+◌, ◌*◌, ◌/◌, ◌%◌, ◌<◌, ◌≤◌, List, [], ◌∷◌, ◌++◌, length, get_or, take, Some, unwrap_or, sym, refl, ap, ◌∙◌, subst, inl, inr, arith, rules, below_more}
-use Rattle.std.proofs.lemmas.List.{ext_get_or, get_or_append_left, get_or_push, append_assoc, flat_map_more, take_more, take_all}
-use Rattle.words.specs.Hex.{octet_of, hex_of, hex_text, word_of, digit_of, dash, SpeltTo, Spells, Names, Octets, HexBack, OctetBack}
+use Rattle.std.proofs.Common.{◌≡◌, ℕ, zero, suc, ◌+◌, ◌*◌, ◌/◌, ◌%◌, ◌^◌, ◌-◌, ◌<◌, ◌≤◌, false, true, List, [], ◌∷◌, ◌++◌, length, get_or, take, drop, Option, Some, None, unwrap_or, sym, refl, ap, ◌∙◌, subst, inl, inr, arith, rules, below_more}
+use Rattle.std.proofs.lemmas.Fmt.{hex_byte}
+use Rattle.std.specs.Fmt.{padded_integral, format_spec, digits}
+use Rattle.std.proofs.lemmas.List.{ext_get_or, get_or_append_left, get_or_push, flat_map_more, take_more, take_all, get_or-take, get_or-drop, drop-drop}
+use Rattle.std.specs.Simd.{first_chunks}
+use Rattle.words.specs.Hex.{octet_of, hex_of, hex_text, SpeltTo, Spells, Octets, HexBack, OctetBack}
 
 some_same : {x y : ℕ} → Some x ≡ Some y → x ≡ y
 some_same e = ap (λ o. unwrap_or o 0) e
@@ -18,6 +21,35 @@ spelt_more word os k o long spelt e =
     below_more _ _
     (λ j h. spelt j h ∙ ap Some (sym (get_or_append_left os (o ∷ []) 0 j (omega (arith, long, h)))))
     (e ∙ ap Some (sym (get_or_push os o 0 k long)))
+
+-- a pair of digits, where it stands in the word
+pair_at : (n : ℕ) (word : List ℕ) (i : ℕ) → i < n → get_or (first_chunks 2 n word) i [] ≡ take 2 (drop (2 * i) word)
+pair_at zero word i l = absurd (omega arith)
+pair_at (suc n) word zero l = refl
+pair_at (suc n) word (suc i) l =
+    let e : 2 * suc i ≡ 2 * i + 2 = omega arith in
+    pair_at n (drop 2 word) i (omega arith) ∙ ap (take 2) (drop-drop (2 * i) 2 word ∙ ap (λ k. drop k word) (omega arith))
+
+digit_at : (pairs : List (List ℕ)) (word : List ℕ) (n i j : ℕ) → pairs ≡ first_chunks 2 n word → i < n → j < 2 → get_or (get_or pairs i []) j 0 ≡ get_or word (2 * i + j) 0
+digit_at pairs word n i j is l small =
+    ap (λ ps. get_or (get_or ps i []) j 0) is
+    ∙ ap (λ p. get_or p j 0) (pair_at n word i l)
+    ∙ get_or-take 2 (drop (2 * i) word) j 0 small
+    ∙ get_or-drop (2 * i) word j 0
+
+-- the octet that a pair spells
+pub pair_octet : (pairs : List (List ℕ)) (word : List ℕ) (i : ℕ) (r : Option ℕ) → pairs ≡ first_chunks 2 (length word / 2) word → length pairs ≡ length word / 2 → i < length pairs
+    → r ≡ octet_of (get_or (get_or pairs i []) 0 0) (get_or (get_or pairs i []) 1 0) → octet_of (get_or word (2 * i) 0) (get_or word (2 * i + 1) 0) ≡ r
+pair_octet pairs word i r is long l e =
+    let at : i < length word / 2 = omega (arith, long) in
+    let z : 2 * i + 0 ≡ 2 * i = omega arith in
+    let high : get_or (get_or pairs i []) 0 0 ≡ get_or word (2 * i) 0 = digit_at pairs word _ i 0 is at (omega arith) ∙ ap (λ k. get_or word k 0) z in
+    let low = digit_at pairs word _ i 1 is at (omega arith) in
+    sym (e ∙ (λ k. octet_of (high k) (low k)))
+
+-- a word with a pair that spells no octet spells none
+pub unspelt : (word os : List ℕ) (i : ℕ) → i < length word / 2 → octet_of (get_or word (2 * i) 0) (get_or word (2 * i + 1) 0) ≡ None → Spells word os → ⊥
+unspelt word os i l none s = let e : Some (get_or os i 0) ≡ None = sym (s.digits i (omega (arith, s.long))) ∙ none in cc
 
 -- all pairs are spelt
 pub spells_all : (word os : List ℕ) (n : ℕ) → length word % 2 ≡ 0 → n ≡ length word / 2 → length os ≡ n → SpeltTo word os n → Spells word os
@@ -52,35 +84,14 @@ pub hex_back : HexBack
 hex_back [] h = inl (refl, refl)
 hex_back (o ∷ os) h = inr (record { long = hex_long (o ∷ os); digits = hex_digits (o ∷ os) h })
 
--- a dash names no octets, and nothing else
-pub dash_word : (w : List ℕ) → length w ≡ 1 → get_or w 0 0 ≡ 45 → w ≡ dash
-dash_word w long e = ext_get_or 0 w dash long (λ i h. let z : i ≡ 0 = omega (arith, long, h) in subst (λ j. get_or w j 0 ≡ get_or dash j 0) (sym z) e)
+-- the digits that are written of one octet
+pub hex_written : (s a : List ℕ) (o : ℕ) → o < 256 → a ≡ s ++ padded_integral (format_spec 32 0 4 2 (2 ^ 64 - 1)) false [] (digits 16 true o) → a ≡ s ++ hex_of o
+hex_written s a o small e = e ∙ ap (λ x. s ++ x) (hex_byte true o small)
 
-pub dash_names : (w os : List ℕ) → w ≡ dash → Names w os → [] ≡ os
-dash_names w os e (inl n) = sym n.1
-dash_names w os e (inr s) = absurd (omega (arith, s.long, ap length e))
-
--- digits that are no dash
-pub full_names : (w os : List ℕ) → (w ≡ dash → ⊥) → Names w os → Spells w os
-full_names w os ne (inl n) = absurd (ne n.0)
-full_names w os ne (inr s) = s
-
--- the word for octets, by their number
-pub word_empty : (os : List ℕ) → length os ≡ 0 → dash ≡ word_of os
-word_empty [] e = refl
-word_empty (o ∷ os) e = absurd (omega (arith, e))
-
-pub word_full : (os : List ℕ) → (length os ≡ 0 → ⊥) → hex_text os ≡ word_of os
-word_full [] ne = absurd (ne refl)
-word_full (o ∷ os) ne = refl
-
--- two more digits
-pub digits_more : (s a b c os : List ℕ) (i h l : ℕ) → i < length os → a ≡ s ++ hex_text (take i os) → b ≡ a ++ h ∷ [] → c ≡ b ++ l ∷ []
-    → h ≡ digit_of (get_or os i 0 / 16) → l ≡ digit_of (get_or os i 0 % 16) → c ≡ s ++ hex_text (take (i + 1) os)
-digits_more s a b c os i h l inside ea eb ec eh el =
-    ec ∙ ap (λ x. x ++ l ∷ []) eb ∙ append_assoc a (h ∷ []) (l ∷ [])
-    ∙ ap (λ x. a ++ x ∷ l ∷ []) eh ∙ ap (λ x. a ++ digit_of (get_or os i 0 / 16) ∷ x ∷ []) el
-    ∙ ap (λ x. x ++ hex_of (get_or os i 0)) ea
+-- one octet's digits more
+pub digits_more : (s a b os : List ℕ) (i : ℕ) → i < length os → a ≡ s ++ hex_text (take i os) → b ≡ a ++ hex_of (get_or os i 0) → b ≡ s ++ hex_text (take (i + 1) os)
+digits_more s a b os i inside ea eb =
+    eb ∙ ap (λ x. x ++ hex_of (get_or os i 0)) ea
     ∙ flat_map_more hex_of s (take i os) (get_or os i 0)
     ∙ ap (λ x. s ++ hex_text x) (sym (take_more os i 0 inside))
 

@@ -11,25 +11,7 @@ const NONE: &str = "-";
 fn value(digit: u8) -> Option<u8>
     ensures { result ≡ value_of digit }
 {
-    match digit {
-        b'0'..=b'9' => Some(digit - b'0'),
-        b'A'..=b'F' => Some(digit - b'A' + 10),
-        b'a'..=b'f' => Some(digit - b'a' + 10),
-        _ => None,
-    }
-}
-
-// The digit of a value.
-fn digit(value: u8) -> u8
-    requires { value < 16 }
-    ensures is { result ≡ digit_of value }
-    ensures small { result < 128 }
-{
-    if value < 10 {
-        b'0' + value
-    } else {
-        b'A' + (value - 10)
-    }
+    Some(char::from(digit).to_digit(16)? as u8)
 }
 
 /// The octet of a high and a low digit.
@@ -37,13 +19,7 @@ pub fn octet(high: u8, low: u8) -> Option<u8>
     ensures is { result ≡ octet_of high low }
     ensures back { OctetBack }
 {
-    let Some(h) = value(high) else {
-        return None;
-    };
-    let Some(l) = value(low) else {
-        return None;
-    };
-    Some(16 * h + l)
+    Some(16 * value(high)? + value(low)?)
 }
 
 // The octets that digits spell.
@@ -51,13 +27,12 @@ fn spelt(heap: Global, digits: &[u8]) -> Result<Option<Vec<u8>>, AllocError>
     ensures reads { IfOk result (λ o. IfSome o (λ v. Spells digits.now v.items)) }
     ensures finds { (os : List ℕ) → Spells digits.now os → IfOk result (λ o. MatchOption o ⊥ (λ v. v.items ≡ os)) }
 {
-    if digits.len() % 2 != 0 {
+    let (pairs, []) = digits.as_chunks::<2>() else {
         return Ok(None);
-    }
-    let count = digits.len() / 2;
-    let mut found = Vec::with_capacity(heap, count)?;
-    for i in 0..count {
-        let Some(octet) = octet(digits[2 * i], digits[2 * i + 1]) else {
+    };
+    let mut found = Vec::with_capacity(heap, pairs.len())?;
+    for [high, low] in pairs {
+        let Some(octet) = octet(*high, *low) else {
             return Ok(None);
         };
         found.push(octet)?;
@@ -70,11 +45,10 @@ pub fn octets(heap: Global, word: &str) -> Result<Option<Vec<u8>>, AllocError>
     ensures reads { IfOk result (λ o. IfSome o (λ v. Names word.now v.items)) }
     ensures finds { (os : List ℕ) → Names word.now os → IfOk result (λ o. MatchOption o ⊥ (λ v. v.items ≡ os)) }
 {
-    let digits = word.as_bytes();
-    if let [b'-'] = digits {
+    if word == NONE {
         return Ok(Some(Vec::new(heap)));
     }
-    spelt(heap, digits)
+    spelt(heap, word.as_bytes())
 }
 
 // Appends the digits of octets.
@@ -82,8 +56,7 @@ fn push_digits(text: &mut String, octets: &[u8]) -> Result<(), AllocError>
     ensures { OnOk result (string_bytes text.new ≡ string_bytes text.old ++ hex_text octets.now) }
 {
     for octet in octets {
-        text.push(char::from(digit(*octet / 16)))?;
-        text.push(char::from(digit(*octet % 16)))?;
+        write!(text, "{octet:02X}")?;
     }
     Ok(())
 }
