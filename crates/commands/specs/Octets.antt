@@ -1,11 +1,11 @@
 -- The arguments as they are read from octets, and the request that they make.
 use Rattle.std.specs.Prelude.{ℕ, Bool, false, List, Some, None, Ok, Err, Option, Result, ◌==◌}
 use Rattle.answers.specs.declared.refusal.Refusal.{Refusal}
-use Rattle.answers.specs.declared.refusal.Refusal.TheVariants.{BadArguments}
 use Rattle.items.specs.declared.types.Fault.{Fault}
 use Rattle.items.specs.declared.types.Span.{Span}
 use Rattle.items.specs.Fields.{unsigned_at, integer_at, bytes_at, text_at, map_head_at}
 use Rattle.items.specs.Lookup.{lookup_of}
+use Rattle.commands.specs.declared.arguments.Arguments.{Arguments}
 use Rattle.commands.specs.declared.types.Track.{Track}
 use Rattle.commands.specs.declared.types.Track.TheVariants.{Number, Octets}
 use Rattle.commands.specs.declared.types.Request.{Request}
@@ -45,6 +45,10 @@ arguments_at os p = record {
   only = λ n m. sized (map_head_at os p) m;
 }
 
+-- the arguments that are read
+abbrev pub source_of : Arguments → Source ℕ Track Span
+source_of a = arguments_at a.octets.now a.place
+
 -- the request of an order
 abbrev pub request_of : Order Track Span → Request
 request_of (heartbeat time) = requests.Heartbeat time
@@ -63,11 +67,6 @@ request_of (reserved kind) = requests.Reserved kind
 abbrev pub requested : Option (Order Track Span) → Option Request
 requested None = None
 requested (Some order) = Some (request_of order)
-
--- the request, or that the arguments are not as listed
-abbrev pub examined : Option Request → Result Request Refusal
-examined None = Err BadArguments
-examined (Some request) = Ok request
 
 -- the request, or the refusal
 abbrev pub answered : Result (Order Track Span) Refusal → Result Request Refusal

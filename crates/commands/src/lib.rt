@@ -2,6 +2,7 @@
 #![tactic(auto)]
 
 mod arguments;
+mod kind;
 mod release;
 mod requests;
 pub mod types;

@@ -1,43 +1,24 @@
 // Whether a request may be released, and the text of a command.
 ghost use Rattle.std.specs.Prelude.{◌≡◌, ◌&&◌, if◌then◌else◌, Some, None};
-ghost use Rattle.commands.specs.Release.{in_catalog, track_listed, not_reserved, tracks_listed, is_heartbeat, track_number, command_of, allowed, part_of, command_text};
+ghost use Rattle.commands.specs.Release.{track_listed, not_reserved, tracks_listed, is_heartbeat, track_number, command_of, allowed, command_text};
 
 use crate::types::{Command, Request, Track};
-use items::types::Span;
-
-// Whether the catalog has the number.
-fn in_catalog(catalog: &[u64], number: u64) -> bool
-    ensures { result ≡ in_catalog catalog.now number }
-{
-    for track in catalog {
-        if *track == number {
-            return true;
-        }
-    }
-    false
-}
 
 // The number of a track that is in the catalog.
 fn listed(catalog: &[u64], track: Track) -> Option<u64>
     ensures { result ≡ (if track_listed catalog.now track then track_number track else None) }
 {
-    let Track::Number(number) = track else {
-        return None;
-    };
-    if !in_catalog(catalog, number) {
-        return None;
+    match track {
+        Track::Number(number) => catalog.contains(&number).then_some(number),
+        Track::Octets(_) => None,
     }
-    Some(number)
 }
 
 impl Request {
     fn is_heartbeat(&self) -> bool
         ensures { result ≡ is_heartbeat self.now }
     {
-        match self {
-            Request::Heartbeat { .. } => true,
-            _ => false,
-        }
+        matches!(self, Request::Heartbeat { .. })
     }
 
     // The command, if its type is neither 30 nor 31 and any track is a number in the catalog.
@@ -75,6 +56,7 @@ impl Request {
 
     /// The command, if it may be released: its type is neither 30 nor 31, any track is a number in the catalog,
     /// and `suspect` is no or it is a heartbeat.
+    #[tactic(auto, unfolding(crate::specs::Release::allowed))]
     pub fn allow(self, catalog: &[u64], suspect: bool) -> Option<Command>
         ensures { result ≡ allowed catalog.now suspect self }
     {
@@ -118,24 +100,13 @@ impl From<Command> for Request {
     }
 }
 
-// That part of the octets; empty if it lies outside.
-fn part<'a>(octets: &'a [u8], span: Span) -> &'a [u8]
-    ensures { result.now ≡ part_of octets.now span }
-{
-    let start = span.start;
-    if start > octets.len() || span.len > octets.len() - start {
-        return &octets[0..0];
-    }
-    let end = start + span.len;
-    &octets[start..end]
-}
-
 /// The text of a command in the octets that it was read from; empty if it has none or the text lies outside.
+#[tactic(auto, unfolding(crate::specs::Release::command_text, items::specs::Spans::shown))]
 pub fn text<'a>(octets: &'a [u8], command: &Command) -> &'a [u8]
     ensures { result.now ≡ command_text octets.now command.now }
 {
     match *command {
-        Command::Text { text, .. } => part(octets, text),
-        _ => &octets[0..0],
+        Command::Text { text, .. } => text.of(octets).unwrap_or(&[]),
+        _ => &[],
     }
 }
