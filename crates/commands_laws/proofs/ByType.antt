@@ -1,5 +1,5 @@
 -- The type alone decides between the two refusals.
-use Rattle.std.proofs.Common.{◌≡◌, ℕ, Bool, true, false, cond, ◌||◌, eqb, List, Some, None, Ok, Err, Option, Result, sym, refl, ◌∙◌, subst, arith}
+use Rattle.std.proofs.Common.{◌≡◌, ℕ, Bool, true, false, cond, ◌||◌, eqb, List, Some, None, Ok, Err, Option, Result, sym, refl, ◌∙◌, subst}
 use Rattle.answers.specs.declared.refusal.Refusal.{Refusal}
 use Rattle.answers.specs.declared.refusal.Refusal.TheVariants.{UnknownCommand, BadArguments}
 use Rattle.items.specs.declared.types.Span.{Span}
@@ -17,7 +17,7 @@ Fits false r = r ≡ Err UnknownCommand
 module _ (os : List ℕ) (p : ℕ) where
   examined-fits : (o : Option (Order Track Span)) → Fits true (answered (listed (arguments_at os p) o))
   examined-fits None = λ e is. cc
-  examined-fits (Some order) = λ e is. let z : ◌≡◌ {A = ℕ} 0 1 = cc in absurd (omega arith)
+  examined-fits (Some order) = λ e is. cc
 
   -- one more type, with its arguments
   one : (b rest : Bool) (o : Option (Order Track Span)) (r : Result (Order Track Span) Refusal) → Fits rest (answered r) → Fits (b || rest) (answered (cond b (listed (arguments_at os p) o) r))
@@ -26,8 +26,8 @@ module _ (os : List ℕ) (p : ℕ) where
 
   -- the two whose arguments are not examined, and any other
   last : (a b : Bool) (order : Order Track Span) → Fits (a || b) (answered (cond (a || b) (Ok order) (Err UnknownCommand)))
-  last true b order = λ e is. let z : ◌≡◌ {A = ℕ} 0 1 = cc in absurd (omega arith)
-  last false true order = λ e is. let z : ◌≡◌ {A = ℕ} 0 1 = cc in absurd (omega arith)
+  last true b order = λ e is. cc
+  last false true order = λ e is. cc
   last false false order = refl
 
   fits_type : (kind : ℕ) → Fits (listed_type kind) (request_at os kind p)

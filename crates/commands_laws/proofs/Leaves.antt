@@ -1,6 +1,7 @@
 -- An argument that is read at its place is the one in the tree.
 use Rattle.std.proofs.Common.{◌≡◌, ℕ, ◌+◌, ◌^◌, ◌<◌, Bool, true, false, cond, ◌&&◌, eqb, ltb, leb, List, length, ℤ, pos, negsuc, nat_abs, Some, None, Ok, Option, sym, refl, ap, ◌∙◌, subst, arith}
 use Rattle.std.proofs.lemmas.Bool.Decides.{nat_tests}
+use Rattle.std.proofs.lemmas.Option.{same_Some}
 use Rattle.items.specs.declared.types.Span.{Span}
 use Rattle.items.specs.Heads.{head_size}
 use Rattle.items.specs.Reading.{containers}
@@ -13,7 +14,7 @@ use Rattle.items_laws.proofs.Written.{at_left}
 use Rattle.items_laws.proofs.Unique.{major, argument, head-reads}
 use Rattle.items_laws.proofs.Finding.{finds_value}
 use Rattle.items_laws.proofs.Inner.{value-canonical}
-use Rattle.items_laws.proofs.Runnings.{none-some, some_same, bytes-exact, text-exact, argument-back}
+use Rattle.items_laws.proofs.Runnings.{bytes-exact, text-exact, argument-back}
 use Rattle.commands.specs.declared.types.Track as declared
 use Rattle.commands.specs.Arguments.{perhaps, number_in, between_in, signed_in, optional_in, track_in, text_in}
 use Rattle.commands.specs.Orders.{given}
@@ -197,7 +198,7 @@ module _ (es : Entries) (key : ℕ) where
   needed f x is = by (value_of es key) is
     where
       by : (o : Option Item) → bind o f ≡ Some x → one o ≡ 1
-      by None e = absurd (none-some e)
+      by None e = cc
       by (Some v) e = refl
 
   pub number-found : (n : ℕ) → number_in (arguments_of es) key ≡ Some n → one (value_of es key) ≡ 1
@@ -209,7 +210,7 @@ module _ (es : Entries) (key : ℕ) where
   between-found low high n is = by (number_in (arguments_of es) key) refl is
     where
       by : (o : Option ℕ) → number_in (arguments_of es) key ≡ o → bind o (λ n. cond (leb low n && leb n high) (Some n) None) ≡ Some n → one (value_of es key) ≡ 1
-      by None e got = absurd (none-some got)
+      by None e got = cc
       by (Some m) e got = number-found m e
 
   pub signed-found : (limit : ℕ) (z : ℤ) → signed_in (arguments_of es) key limit ≡ Some z → one (value_of es key) ≡ 1
@@ -229,9 +230,9 @@ module _ (es : Entries) (key : ℕ) where
   optional-found x is = by (value_of es key) is
     where
       some-given : (o : Option ℕ) → bind o (λ n. Some (Some n)) ≡ Some x → 1 ≡ given x
-      some-given None e = absurd (none-some e)
-      some-given (Some n) e = ap given (some_same e)
+      some-given None e = cc
+      some-given (Some n) e = ap given (same_Some _ _ e)
 
       by : (o : Option Item) → bind (Some o) (perhaps (arguments_of es)) ≡ Some x → one o ≡ given x
-      by None e = ap given (some_same e)
+      by None e = ap given (same_Some _ _ e)
       by (Some v) e = some-given (unsigned_of v) e

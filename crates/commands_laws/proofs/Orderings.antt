@@ -117,6 +117,6 @@ module _ (os : List ℕ) where
         (either (eqb kind 30 || eqb kind 31) _ _ _ _ (request_of (reserved kind), refl, shows_reserved kind)
         refl))))))))))
 
-  pub answers-order : (kind p : ℕ) (r : Result Request Refusal) → r ≡ request_at os kind p → AnswersOrder os kind p r
+  pub answers_order : (kind p : ℕ) (r : Result Request Refusal) → r ≡ request_at os kind p → AnswersOrder os kind p r
   unfolding request_at
-  answers-order kind p r is es good a = subst (Answers os (order_of kind es)) (sym is) (orders p es good a kind)
+  answers_order kind p r is es good a = subst (Answers os (order_of kind es)) (sym is) (orders p es good a kind)

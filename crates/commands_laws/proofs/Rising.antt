@@ -1,6 +1,6 @@
 -- A map whose keys are among the first few is the list of their values, in the order of the keys.
 use Rattle.std.proofs.Common.{◌≡◌, ℕ, zero, suc, ◌+◌, ◌*◌, ◌<◌, ◌≤◌, true, false, cond, ltb, List, [], ◌∷◌, Some, None, Option, sym, refl, ap, ◌∙◌, subst, ⊎_elim, arith}
-use Rattle.std.proofs.lemmas.Bool.{and_parts, cases_order, eq-eqb, ne_eqb, ltb-true, cond-true, true≢false}
+use Rattle.std.proofs.lemmas.Bool.{and_parts, cases_order, eq-eqb, ne_eqb, ltb-true, cond-true}
 use Rattle.std.proofs.lemmas.Bool.Decides.{nat_tests}
 use Rattle.items.specs.Keys.{before, above}
 use Rattle.items.specs.Trees.{Item, unsigned, negative, bytes, text, array, map, simple_false, simple_true, simple_null, Entries, no_entries, next_entry, head_of, encoding, ascending, entries_ascending, Canonical, is_unsigned, value_of}
@@ -13,14 +13,14 @@ Rising low top (next_entry key v es) = (m : ℕ) × (key ≡ unsigned m) × (low
 
 key-number : (key : Item) (n : ℕ) → key_below (unsigned_of key) n ≡ true → (m : ℕ) × (key ≡ unsigned m) × (m < n)
 key-number (unsigned m) n e = (m, refl, ltb-true m n e)
-key-number (negative m) n e = absurd (true≢false (sym e))
-key-number (bytes bs) n e = absurd (true≢false (sym e))
-key-number (text bs) n e = absurd (true≢false (sym e))
-key-number (array ts) n e = absurd (true≢false (sym e))
-key-number (map es) n e = absurd (true≢false (sym e))
-key-number simple_false n e = absurd (true≢false (sym e))
-key-number simple_true n e = absurd (true≢false (sym e))
-key-number simple_null n e = absurd (true≢false (sym e))
+key-number (negative m) n e = cc
+key-number (bytes bs) n e = cc
+key-number (text bs) n e = cc
+key-number (array ts) n e = cc
+key-number (map es) n e = cc
+key-number simple_false n e = cc
+key-number simple_true n e = cc
+key-number simple_null n e = cc
 
 -- a small number is one octet
 small : (n : ℕ) → n < 24 → encoding (unsigned n) ≡ n ∷ []

@@ -1,12 +1,13 @@
 -- A request is answered exactly where a valid order is written.
 use Rattle.std.proofs.Common.{◌≡◌, ℕ, ◌≤◌, Bool, true, false, cond, ◌&&◌, ◌||◌, eqb, leb, List, ℤ, pos, negsuc, nat_abs, Some, None, Ok, Err, Option, Result, sym, refl, ap, ◌∙◌, subst, inl, inr, ⊎_elim, arith}
 use Rattle.std.proofs.lemmas.Bool.{and_parts, and_from, or_cases, le-leb, leb-true, eqb-true}
+use Rattle.std.proofs.lemmas.Option.{same_Some, cond_some}
 use Rattle.answers.specs.declared.refusal.Refusal.{Refusal}
 use Rattle.items.specs.Fields.{bind}
 use Rattle.items.specs.Trees as trees
 use Rattle.items.specs.Trees.{Item, unsigned, negative, bytes, array, map, simple_false, simple_true, simple_null, Entries, no_entries, Canonical, value_of}
 use Rattle.items_laws.specs.Exact.{integer}
-use Rattle.items_laws.proofs.Runnings.{none-some, some_same, bound, cond-some}
+use Rattle.items_laws.proofs.Runnings.{bound}
 use Rattle.commands.specs.declared.types.Request.{Request}
 use Rattle.commands.specs.Arguments.{perhaps, number_in, between_in, signed_in, optional_in, track_in, text_in}
 use Rattle.commands.specs.Orders.{Order, heartbeat, queue, suggest, remove, state, seek, rate, next, previous, text, reserved, in_order, closing, heartbeat_in, queue_in, suggest_in, remove_in, state_in, seek_in, rate_in, text_order_in, listed, order_in}
@@ -15,55 +16,55 @@ use Rattle.commands.specs.Entries.{Track, number, octets, unsigned_of, integer_o
 use Rattle.commands_laws.specs.Laws.{Shows, Answers}
 use Rattle.commands_laws.specs.Sending.{kind_of, track_item, entry, optional_entry, entries_of, Valid, Sends, ReadsOrders}
 use Rattle.commands_laws.proofs.Rising.{entry_if, entries_from, relist}
-use Rattle.commands_laws.proofs.Orderings.{answers-order}
+use Rattle.commands_laws.proofs.Orderings.{answers_order}
 
 abbrev Meant : Type 0
 Meant = Order Track (List ℕ)
 
 -- an item that is read as a value is how the value is written
 unsigned_item : (v : Item) (n : ℕ) → unsigned_of v ≡ Some n → v ≡ unsigned n
-unsigned_item (unsigned m) n e = ap unsigned (some_same e)
-unsigned_item (negative m) n e = absurd (none-some e)
-unsigned_item (bytes bs) n e = absurd (none-some e)
-unsigned_item (trees.text bs) n e = absurd (none-some e)
-unsigned_item (array ts) n e = absurd (none-some e)
-unsigned_item (map es) n e = absurd (none-some e)
-unsigned_item simple_false n e = absurd (none-some e)
-unsigned_item simple_true n e = absurd (none-some e)
-unsigned_item simple_null n e = absurd (none-some e)
+unsigned_item (unsigned m) n e = cc
+unsigned_item (negative m) n e = cc
+unsigned_item (bytes bs) n e = cc
+unsigned_item (trees.text bs) n e = cc
+unsigned_item (array ts) n e = cc
+unsigned_item (map es) n e = cc
+unsigned_item simple_false n e = cc
+unsigned_item simple_true n e = cc
+unsigned_item simple_null n e = cc
 
 integer_item : (v : Item) (z : ℤ) → integer_of v ≡ Some z → v ≡ integer z
-integer_item (unsigned m) z e = ap integer (some_same e)
-integer_item (negative m) z e = ap integer (some_same e)
-integer_item (bytes bs) z e = absurd (none-some e)
-integer_item (trees.text bs) z e = absurd (none-some e)
-integer_item (array ts) z e = absurd (none-some e)
-integer_item (map es) z e = absurd (none-some e)
-integer_item simple_false z e = absurd (none-some e)
-integer_item simple_true z e = absurd (none-some e)
-integer_item simple_null z e = absurd (none-some e)
+integer_item (unsigned m) z e = cc
+integer_item (negative m) z e = cc
+integer_item (bytes bs) z e = cc
+integer_item (trees.text bs) z e = cc
+integer_item (array ts) z e = cc
+integer_item (map es) z e = cc
+integer_item simple_false z e = cc
+integer_item simple_true z e = cc
+integer_item simple_null z e = cc
 
 track_item_lem : (v : Item) (t : Track) → track_of v ≡ Some t → v ≡ track_item t
-track_item_lem (unsigned m) t e = ap track_item (some_same e)
-track_item_lem (negative m) t e = absurd (none-some e)
-track_item_lem (bytes bs) t e = ap track_item (some_same e)
-track_item_lem (trees.text bs) t e = absurd (none-some e)
-track_item_lem (array ts) t e = absurd (none-some e)
-track_item_lem (map es) t e = absurd (none-some e)
-track_item_lem simple_false t e = absurd (none-some e)
-track_item_lem simple_true t e = absurd (none-some e)
-track_item_lem simple_null t e = absurd (none-some e)
+track_item_lem (unsigned m) t e = ap track_item (same_Some _ _ e)
+track_item_lem (negative m) t e = cc
+track_item_lem (bytes bs) t e = ap track_item (same_Some _ _ e)
+track_item_lem (trees.text bs) t e = cc
+track_item_lem (array ts) t e = cc
+track_item_lem (map es) t e = cc
+track_item_lem simple_false t e = cc
+track_item_lem simple_true t e = cc
+track_item_lem simple_null t e = cc
 
 text_item : (v : Item) (bs : List ℕ) → text_of v ≡ Some bs → v ≡ trees.text bs
-text_item (unsigned m) bs e = absurd (none-some e)
-text_item (negative m) bs e = absurd (none-some e)
-text_item (bytes cs) bs e = absurd (none-some e)
-text_item (trees.text cs) bs e = ap trees.text (some_same e)
-text_item (array ts) bs e = absurd (none-some e)
-text_item (map es) bs e = absurd (none-some e)
-text_item simple_false bs e = absurd (none-some e)
-text_item simple_true bs e = absurd (none-some e)
-text_item simple_null bs e = absurd (none-some e)
+text_item (unsigned m) bs e = cc
+text_item (negative m) bs e = cc
+text_item (bytes cs) bs e = cc
+text_item (trees.text cs) bs e = cc
+text_item (array ts) bs e = cc
+text_item (map es) bs e = cc
+text_item simple_false bs e = cc
+text_item simple_true bs e = cc
+text_item simple_null bs e = cc
 
 -- the item of an optional number
 abbrev item_of : Option ℕ → Option Item
@@ -92,7 +93,7 @@ module _ (es : Entries) (key : ℕ) where
   unfolding between_in
   between-value low high n is =
       let b = bound (number_in (arguments_of es) key) _ n is in
-      let c = cond-some (leb low b.got && leb b.got high) b.got n b.rest in
+      let c = cond_some (leb low b.got && leb b.got high) b.got n b.rest in
       let d = and_parts (leb low b.got) (leb b.got high) c.0 in
       let l : low ≤ b.got = leb-true low b.got d.0 in
       let h : b.got ≤ high = leb-true b.got high d.1 in
@@ -104,7 +105,7 @@ module _ (es : Entries) (key : ℕ) where
   signed-value limit z is =
       let a = bound (value_of es key) _ z is in
       let b = bound (integer_of a.got) (λ y. cond (leb (nat_abs y) limit) (Some y) None) z a.rest in
-      let c = cond-some (leb (nat_abs b.got) limit) b.got z b.rest in
+      let c = cond_some (leb (nat_abs b.got) limit) b.got z b.rest in
       (a.first ∙ ap Some (integer_item a.got z (b.first ∙ ap Some c.1)), subst (λ y. nat_abs y ≤ limit) c.1 (leb-true (nat_abs b.got) limit c.0))
 
   optional-value : (x : Option ℕ) → optional_in (arguments_of es) key ≡ Some x → value_of es key ≡ item_of x
@@ -112,10 +113,10 @@ module _ (es : Entries) (key : ℕ) where
   optional-value x is = by (value_of es key) refl is
     where
       by : (o : Option Item) → value_of es key ≡ o → perhaps (arguments_of es) o ≡ Some x → value_of es key ≡ item_of x
-      by None e got = e ∙ ap item_of (some_same got)
+      by None e got = e ∙ ap item_of (same_Some _ _ got)
       by (Some v) e got =
           let b = bound (unsigned_of v) (λ n. Some (Some n)) x got in
-          e ∙ ap Some (unsigned_item v b.got b.first) ∙ ap item_of (some_same b.rest)
+          e ∙ ap Some (unsigned_item v b.got b.first) ∙ ap item_of (same_Some _ _ b.rest)
 
 optional_entry_lem : (key : ℕ) (x : Option ℕ) (es : Entries) → entry_if key (item_of x) es ≡ optional_entry key x es
 optional_entry_lem key None es = refl
@@ -123,27 +124,21 @@ optional_entry_lem key (Some n) es = refl
 
 cond-through : {X : Type 0} (b : Bool) (x : Option X) (y : X) → cond b x None ≡ Some y → (b ≡ true) × (x ≡ Some y)
 cond-through true x y e = (refl, e)
-cond-through false x y e = absurd (none-some e)
+cond-through false x y e = cc
 
 pick : {P X : Type 0} (b : Bool) (x y z : Result X Refusal) → (b ≡ true → x ≡ z → P) → (b ≡ false → y ≡ z → P) → cond b x y ≡ z → P
 pick true x y z f g e = f refl e
 pick false x y z f g e = g refl e
 
-err_ok : {X : Type 0} {e : Refusal} {x : X} → ◌≡◌ {A = Result X Refusal} (Err e) (Ok x) → ⊥
-err_ok p = let z : ◌≡◌ {A = ℕ} 0 1 = cc in omega arith
-
-ok_same : {X : Type 0} {x y : X} → ◌≡◌ {A = Result X Refusal} (Ok x) (Ok y) → x ≡ y
-ok_same p = cc
-
 module _ (kind : ℕ) (es : Entries) (good : Canonical (map es)) (o : Meant) where
   unlisted : (x : Option Meant) → listed (arguments_of es) x ≡ Ok o → x ≡ Some o
-  unlisted None e = absurd (err_ok e)
-  unlisted (Some y) e = ap Some (ok_same e)
+  unlisted None e = cc
+  unlisted (Some y) e = cc
 
   heartbeat-sent : kind ≡ 0 → heartbeat_in (arguments_of es) ≡ Some o → Sends kind es o
   heartbeat-sent k is =
       let a = bound (optional_in (arguments_of es) 0) _ o is in
-      let z = cond-some (keys_below 1 es) (heartbeat a.got) o a.rest in
+      let z = cond_some (keys_below 1 es) (heartbeat a.got) o a.rest in
       let all = relist es good 1 (omega arith) z.0 in
       let e₀ = optional-value es 0 a.got a.first in
       subst (Sends kind es) z.1 (record { valid = tt; type_is = k; entries_are = all ∙ ap (λ x. entry_if 0 x no_entries) e₀ ∙ optional_entry_lem 0 a.got no_entries })
@@ -155,7 +150,7 @@ module _ (kind : ℕ) (es : Entries) (good : Canonical (map es)) (o : Meant) whe
       let c = bound (optional_in (arguments_of es) 2) _ o b.rest in
       let d = bound (optional_in (arguments_of es) 3) _ o c.rest in
       let y = cond-through (in_order c.got d.got) _ o d.rest in
-      let z = cond-some (keys_below 4 es) (queue a.got b.got c.got d.got) o y.1 in
+      let z = cond_some (keys_below 4 es) (queue a.got b.got c.got d.got) o y.1 in
       let all = relist es good 4 (omega arith) z.0 in
       let e₀ = track-value es 0 a.got a.first in
       let e₁ = signed-value es 1 10 b.got b.first in
@@ -169,7 +164,7 @@ module _ (kind : ℕ) (es : Entries) (good : Canonical (map es)) (o : Meant) whe
   suggest-sent k is =
       let a = bound (track_in (arguments_of es) 0) _ o is in
       let b = bound (signed_in (arguments_of es) 1 5) _ o a.rest in
-      let z = cond-some (keys_below 2 es) (suggest a.got b.got) o b.rest in
+      let z = cond_some (keys_below 2 es) (suggest a.got b.got) o b.rest in
       let all = relist es good 2 (omega arith) z.0 in
       let e₀ = track-value es 0 a.got a.first in
       let e₁ = signed-value es 1 5 b.got b.first in
@@ -178,34 +173,34 @@ module _ (kind : ℕ) (es : Entries) (good : Canonical (map es)) (o : Meant) whe
   remove-sent : kind ≡ 3 → remove_in (arguments_of es) ≡ Some o → Sends kind es o
   remove-sent k is =
       let a = bound (number_in (arguments_of es) 0) _ o is in
-      let z = cond-some (keys_below 1 es) (remove a.got) o a.rest in
+      let z = cond_some (keys_below 1 es) (remove a.got) o a.rest in
       let e₀ = number-value es 0 a.got a.first in
       subst (Sends kind es) z.1 (record { valid = tt; type_is = k; entries_are = relist es good 1 (omega arith) z.0 ∙ ap (λ x. entry_if 0 x no_entries) e₀ })
 
   state-sent : kind ≡ 10 → state_in (arguments_of es) ≡ Some o → Sends kind es o
   state-sent k is =
       let a = bound (between_in (arguments_of es) 0 0 2) _ o is in
-      let z = cond-some (keys_below 1 es) (state a.got) o a.rest in
+      let z = cond_some (keys_below 1 es) (state a.got) o a.rest in
       let e₀ = between-value es 0 0 2 a.got a.first in
       subst (Sends kind es) z.1 (record { valid = e₀.2; type_is = k; entries_are = relist es good 1 (omega arith) z.0 ∙ ap (λ x. entry_if 0 x no_entries) e₀.0 })
 
   seek-sent : kind ≡ 11 → seek_in (arguments_of es) ≡ Some o → Sends kind es o
   seek-sent k is =
       let a = bound (signed_in (arguments_of es) 0 60000) _ o is in
-      let z = cond-some (keys_below 1 es) (seek a.got) o a.rest in
+      let z = cond_some (keys_below 1 es) (seek a.got) o a.rest in
       let e₀ = signed-value es 0 60000 a.got a.first in
       subst (Sends kind es) z.1 (record { valid = e₀.1; type_is = k; entries_are = relist es good 1 (omega arith) z.0 ∙ ap (λ x. entry_if 0 x no_entries) e₀.0 })
 
   rate-sent : kind ≡ 12 → rate_in (arguments_of es) ≡ Some o → Sends kind es o
   rate-sent k is =
       let a = bound (between_in (arguments_of es) 0 50 200) _ o is in
-      let z = cond-some (keys_below 1 es) (rate a.got) o a.rest in
+      let z = cond_some (keys_below 1 es) (rate a.got) o a.rest in
       let e₀ = between-value es 0 50 200 a.got a.first in
       subst (Sends kind es) z.1 (record { valid = (e₀.1, e₀.2); type_is = k; entries_are = relist es good 1 (omega arith) z.0 ∙ ap (λ x. entry_if 0 x no_entries) e₀.0 })
 
   bare-sent : (y : Meant) → Valid y → kind ≡ kind_of y → entries_of es y ≡ no_entries → closing (arguments_of es) 0 0 y ≡ Some o → Sends kind es o
   bare-sent y v k none is =
-      let z = cond-some (keys_below 0 es) y o is in
+      let z = cond_some (keys_below 0 es) y o is in
       subst (Sends kind es) z.1 (record { valid = v; type_is = k; entries_are = relist es good 0 (omega arith) z.0 ∙ sym none })
 
   text-sent : kind ≡ 20 → text_order_in (arguments_of es) ≡ Some o → Sends kind es o
@@ -213,7 +208,7 @@ module _ (kind : ℕ) (es : Entries) (good : Canonical (map es)) (o : Meant) whe
       let a = bound (between_in (arguments_of es) 0 0 2) _ o is in
       let b = bound (between_in (arguments_of es) 1 0 2) _ o a.rest in
       let c = bound (text_in (arguments_of es) 2) _ o b.rest in
-      let z = cond-some (keys_below 3 es) (text a.got b.got c.got) o c.rest in
+      let z = cond_some (keys_below 3 es) (text a.got b.got c.got) o c.rest in
       let e₀ = between-value es 0 0 2 a.got a.first in
       let e₁ = between-value es 1 0 2 b.got b.first in
       let e₂ = text-value es 2 c.got c.first in
@@ -238,7 +233,7 @@ module _ (kind : ℕ) (es : Entries) (good : Canonical (map es)) (o : Meant) whe
       (λ _. pick (eqb kind 13) _ _ (Ok o) (λ b e. bare-sent next tt (eqb-true kind 13 b) refl (unlisted _ e))
       (λ _. pick (eqb kind 14) _ _ (Ok o) (λ b e. bare-sent previous tt (eqb-true kind 14 b) refl (unlisted _ e))
       (λ _. pick (eqb kind 20) _ _ (Ok o) (λ b e. text-sent (eqb-true kind 20 b) (unlisted _ e))
-      (λ _. pick (eqb kind 30 || eqb kind 31) _ _ (Ok o) (λ b e. reserved-sent b (ok_same e)) (λ _ e. absurd (err_ok e))))))))))))
+      (λ _. pick (eqb kind 30 || eqb kind 31) _ _ (Ok o) (λ b e. reserved-sent b (cc)) (λ _ e. cc)))))))))))
 
 -- what is written is read back
 track-back : (t : Track) → track_of (track_item t) ≡ Some t
@@ -275,12 +270,12 @@ sent-order : (kind : ℕ) (es : Entries) (o : Meant) → Sends kind es o → ord
 sent-order kind es o s = (λ i. order_of (s.type_is i) (s.entries_are i)) ∙ written es o s.valid
 
 module _ (os : List ℕ) (kind p : ℕ) (r : Result Request Refusal) (is : r ≡ request_at os kind p) where
-  pub reads-orders : ReadsOrders os kind p r
-  reads-orders es good a = record {
-    sound = λ request got. by request got (order_of kind es) refl (answers-order os kind p r is es good a);
-    back = λ o s. subst (λ x. Answers os x r) (sent-order kind es o s) (answers-order os kind p r is es good a);
+  pub reads_orders : ReadsOrders os kind p r
+  reads_orders es good a = record {
+    sound = λ request got. by request got (order_of kind es) refl (answers_order os kind p r is es good a);
+    back = λ o s. subst (λ x. Answers os x r) (sent-order kind es o s) (answers_order os kind p r is es good a);
   }
     where
       by : (request : Request) → r ≡ Ok request → (x : Result Meant Refusal) → order_of kind es ≡ x → Answers os x r → (o : Meant) × Sends kind es o × Shows os request o
-      by request got (Ok o) e (found, answer, shows) = (o, order-sent kind es good o e, subst (λ q. Shows os q o) (ok_same (sym answer ∙ got)) shows)
-      by request got (Err x) e answer = absurd (err_ok (sym answer ∙ got))
+      by request got (Ok o) e (found, answer, shows) = (o, order-sent kind es good o e, let same : found ≡ request = cc in subst (λ q. Shows os q o) same shows)
+      by request got (Err x) e answer = cc

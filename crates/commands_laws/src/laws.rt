@@ -12,6 +12,7 @@ use commands::{request, text};
 /// Reads what a message asks for: where the map of arguments is the encoding of a tree that a message may hold,
 /// the answer is that to the order of this tree, a request that shows it or the refusal; so a request is answered
 /// exactly where a valid order is written. The refusal is `UnknownCommand` exactly where the type is not listed.
+#[tactic(auto, using(crate::proofs::Orderings::answers_order, crate::proofs::Sent::reads_orders, crate::proofs::ByType::refuses_by_type))]
 pub fn read_request(octets: &[u8], kind: u64, args: usize) -> Result<Request, Refusal>
     ensures is { result ≡ request_at octets.now kind args }
     ensures answers { AnswersOrder octets.now kind args result }
@@ -22,6 +23,7 @@ pub fn read_request(octets: &[u8], kind: u64, args: usize) -> Result<Request, Re
 }
 
 /// Releases a request: there is a command exactly when it may be released.
+#[tactic(auto, using(crate::proofs::Releasing::exactly))]
 pub fn release(request: Request, catalog: &[u64], suspect: bool) -> Option<Command>
     ensures is { result ≡ allowed catalog.now suspect request }
     ensures exactly { is_some result ≡ may_release catalog.now suspect request }

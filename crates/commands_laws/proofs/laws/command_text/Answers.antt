@@ -1,5 +1,5 @@
 use Rattle.commands_laws.proofs.Releasing.{hands_out}
 use Rattle.commands_laws.proofs.laws.command_text.Goals as goal
 
-pub returns : goal.returns
-returns c = record { is = c.text.ensures; out = hands_out c.args.octets.now c.args.command.now c.text.result.now c.text.ensures }
+pub returns-clause-out : goal.returns-clause-out
+returns-clause-out c = hands_out _ _ _ c.text.ensures
