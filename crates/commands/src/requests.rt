@@ -162,6 +162,9 @@ pub fn request(octets: &[u8], kind: u64, args: usize) -> Result<Request, Refusal
     ensures { result ≡ request_at octets.now kind args }
 {
     let kind = Kind::try_from(kind)?;
-    let place = args;
-    ordered(kind, &Arguments { octets, place }).ok_or(Refusal::BadArguments)
+    let arguments = Arguments {
+        octets,
+        place: args,
+    };
+    ordered(kind, &arguments).ok_or(Refusal::BadArguments)
 }

@@ -9,6 +9,7 @@ pub enum Track {
 }
 
 /// What a message asks for. Strings are given by their place in the octets.
+// Kept: (a) state, target, mode and the reserved type are numbers, since `allow` may not ask more of its callers.
 #[derive(Clone, Copy)]
 pub enum Request {
     Heartbeat {
@@ -48,6 +49,7 @@ pub enum Request {
 }
 
 /// A command that is released: its own arguments and no others, as numbers. The text is given by its place in the octets.
+// Kept: (a) the command record has one case of numbers for each command type.
 #[derive(Clone, Copy)]
 pub enum Command {
     Heartbeat {
