@@ -6,14 +6,17 @@ ghost use Rattle.cases.specs.Table.{table, CasesHold};
 
 const CASES: usize = 26;
 
-// Every case of the table holds of the definitions that the contracts use.
+/// Every case of the table holds of the definitions that the contracts use.
+#[tactic(auto, using(crate::proofs::Computed::all_hold))]
 pub fn table_holds() -> u8
-    ensures { CasesHold }
+    ensures zero { result ≡ 0 }
+    ensures hold { CasesHold }
 {
     0
 }
 
 /// How many cases the table has, every one of which holds of the definitions that the contracts use.
+#[tactic(auto, using(crate::proofs::Computed::all_hold))]
 pub fn cases() -> usize
     ensures count { result ≡ length table }
     ensures hold { CasesHold }
