@@ -12,18 +12,12 @@ const HORIZON: u64 = 86_400;
 pub fn not_expired(clock: u64, exp: Option<u64>) -> bool
     ensures { result ≡ not_expired clock exp }
 {
-    match exp {
-        None => true,
-        Some(exp) => clock <= exp || clock - exp <= GRACE,
-    }
+    exp.is_none_or(|exp| clock.saturating_sub(exp) <= GRACE)
 }
 
 /// Is the expiry at most a day past the clock? Without one it is.
 pub fn not_too_far(clock: u64, exp: Option<u64>) -> bool
     ensures { result ≡ not_too_far clock exp }
 {
-    match exp {
-        None => true,
-        Some(exp) => exp <= clock || exp - clock <= HORIZON,
-    }
+    exp.is_none_or(|exp| exp.saturating_sub(clock) <= HORIZON)
 }

@@ -2,8 +2,9 @@
 ghost use Rattle.std.specs.Prelude.{◌≡◌, ◌<◌, length};
 ghost use Rattle.items.specs.Heads.{head_size};
 ghost use Rattle.items.specs.Reading.{message_items};
-ghost use Rattle.message.specs.Sizes.{next_head, strings_fit};
+ghost use Rattle.message.specs.Sizes.{up_to, next_head, strings_fit};
 
+use items::types::Span;
 use items::{bytes_at, text_at};
 
 // Major types.
@@ -21,6 +22,7 @@ const TEXT_MOST: usize = 256;
 const ITEMS: usize = 1024;
 
 // How many octets the head at the place has.
+#[tactic(auto, unfolding(items::specs::Heads::head_size))]
 fn head_size(octets: &[u8], place: usize) -> usize
     requires { place < length octets.now }
     ensures { result ≡ head_size octets.now place }
@@ -34,31 +36,28 @@ fn head_size(octets: &[u8], place: usize) -> usize
     }
 }
 
+// The place behind a string of at most so many octets.
+fn up_to(most: usize, read: Option<(Span, usize)>) -> Option<usize>
+    ensures { result ≡ up_to most read }
+{
+    read.filter(|(span, _)| span.len <= most)
+        .map(|(_, behind)| behind)
+}
+
 // The place of the head behind this one, unless this is the head of a string that is too long.
+#[tactic(auto, unfolding(crate::specs::Sizes::next_head))]
 fn next_head(octets: &[u8], place: usize) -> Option<usize>
     requires { place < length octets.now }
     ensures { result ≡ next_head octets.now place }
 {
-    let major = octets[place] / 32;
-    if major == BYTES {
-        let (span, behind) = bytes_at(octets, place)?;
-        if span.len > BYTES_MOST {
-            return None;
+    match octets[place] / 32 {
+        BYTES => up_to(BYTES_MOST, bytes_at(octets, place)),
+        TEXT => up_to(TEXT_MOST, text_at(octets, place)),
+        _ => {
+            let size = head_size(octets, place);
+            (size <= octets.len() - place).then(|| place + size)
         }
-        return Some(behind);
     }
-    if major == TEXT {
-        let (span, behind) = text_at(octets, place)?;
-        if span.len > TEXT_MOST {
-            return None;
-        }
-        return Some(behind);
-    }
-    let size = head_size(octets, place);
-    if size > octets.len() - place {
-        return None;
-    }
-    Some(place + size)
 }
 
 // Whether no string of the octets is too long.

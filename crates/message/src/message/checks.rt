@@ -5,7 +5,7 @@ ghost use Rattle.message.specs.Checks.{profile_matches, echo_matches, signature_
 ghost use Rattle.message.specs.Sizes.{meta_fits, message_most, sizes_fit};
 
 use super::Message;
-use super::slices::{front, is_same, octet_at, rest, slice};
+use super::slices::{front, octet_at, rest, slice};
 use crate::sizes::strings_fit;
 use crate::types::Meta;
 use verdicts::Transcript;
@@ -58,10 +58,7 @@ fn signature_octets(alg: u8) -> usize
 fn meta_fits(meta: Option<Meta>) -> bool
     ensures { result ≡ meta_fits meta }
 {
-    match meta {
-        None => true,
-        Some(meta) => meta.span.len <= META_MOST,
-    }
+    meta.is_none_or(|meta| meta.span.len <= META_MOST)
 }
 
 impl<'a> Message<'a> {
@@ -73,33 +70,28 @@ impl<'a> Message<'a> {
     }
 
     /// Are message, arguments, metadata and all strings but the signature small enough?
+    #[tactic(auto, unfolding(crate::specs::Sizes::sizes_fit))]
     pub fn sizes_fit(&self) -> bool
         ensures { result ≡ sizes_fit self.now.octets.now self.now.view }
     {
         let signature = self.view.auth.signature;
         let before = front(self.octets, self.view.auth.entry);
         let behind = rest(rest(self.octets, signature.start), signature.len);
-        (self.octets.len() <= most_octets(self.view.auth.alg))
-            & (self.view.cmd.args.len <= ARGS_MOST)
-            & meta_fits(self.view.meta)
-            & strings_fit(before)
-            & strings_fit(behind)
+        self.octets.len() <= most_octets(self.view.auth.alg)
+            && self.view.cmd.args.len <= ARGS_MOST
+            && meta_fits(self.view.meta)
+            && strings_fit(before)
+            && strings_fit(behind)
     }
 
     /// Is an echo absent, or equal to a context that is there?
     pub fn echo_matches(&self) -> bool
         ensures { result ≡ echo_matches self.now.octets.now self.now.view }
     {
-        let Some(meta) = self.view.meta else {
-            return true;
-        };
-        let Some(echo) = meta.echo else {
-            return true;
-        };
-        let Some(ctx) = self.view.auth.ctx else {
-            return false;
-        };
-        is_same(slice(self.octets, echo), slice(self.octets, ctx))
+        let echo = self.view.meta.and_then(|meta| meta.echo);
+        let ctx = self.view.auth.ctx;
+        echo.is_none_or(|echo| ctx.is_some_and(|ctx| slice(self.octets, echo)
+            == slice(self.octets, ctx)))
     }
 
     /// Has the signature the length of its alg?
@@ -117,6 +109,7 @@ impl<'a> Message<'a> {
     }
 
     /// What is signed: the message without the signature's entry, hashed where it lies.
+    #[tactic(auto, unfolding(crate::specs::Checks::transcript_of))]
     pub fn transcript(&self) -> Transcript<'a>
         ensures { octets_of result ≡ transcript_of self.now.octets.now self.now.view }
     {

@@ -1,6 +1,5 @@
 // Parts of octets, whatever their places: what lies outside is left out.
 ghost use Rattle.std.specs.Prelude.{◌≡◌, take, drop, slice_index};
-ghost use Rattle.std.specs.Str.{bytes_eq};
 ghost use Rattle.message.specs.Checks.{held};
 
 use items::types::Span;
@@ -9,22 +8,14 @@ use items::types::Span;
 pub(crate) fn front(octets: &[u8], count: usize) -> &[u8]
     ensures { result.now ≡ take count octets.now }
 {
-    if count < octets.len() {
-        &octets[..count]
-    } else {
-        octets
-    }
+    octets.get(..count).unwrap_or(octets)
 }
 
 // The octets behind the first ones.
 pub(crate) fn rest(octets: &[u8], count: usize) -> &[u8]
     ensures { result.now ≡ drop count octets.now }
 {
-    if count < octets.len() {
-        &octets[count..]
-    } else {
-        &octets[..0]
-    }
+    octets.get(count..).unwrap_or(&[])
 }
 
 // What the span holds.
@@ -38,16 +29,5 @@ pub(crate) fn slice(octets: &[u8], span: Span) -> &[u8]
 pub(crate) fn octet_at(octets: &[u8], place: usize) -> u8
     ensures { result ≡ slice_index octets.now place }
 {
-    if place < octets.len() {
-        octets[place]
-    } else {
-        0
-    }
-}
-
-// Whether both are the same octets.
-pub(crate) fn is_same(left: &[u8], right: &[u8]) -> bool
-    ensures { result ≡ bytes_eq left.now right.now }
-{
-    left == right
+    octets.get(place).copied().unwrap_or(0)
 }
