@@ -2,7 +2,7 @@
 #![tactic(auto)]
 
 mod compare;
-mod fields;
+pub mod fields;
 mod item;
 mod keys;
 mod majors;

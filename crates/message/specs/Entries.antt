@@ -1,7 +1,8 @@
 -- Single entries of the maps of a message, read forward: what is found, and the place behind it.
-use Rattle.std.specs.Prelude.{ℕ, ◌-◌, cond, ◌&&◌, List, Some, None, Option, ◌==◌, nat_le}
+use Rattle.std.specs.Prelude.{◌≡◌, ℕ, ◌-◌, cond, ◌&&◌, List, Some, None, Option, ◌==◌, nat_le}
 use Rattle.items.specs.declared.types.Span.{Span}
 use Rattle.items.specs.Heads.{part}
+use Rattle.message.specs.declared.entries.Entries.{Entries}
 use Rattle.items.specs.Fields.{bind, unsigned_at, map_head_at, key_at, bytes_at}
 
 -- a map of at least so many entries: how many it has above these, and where they start
@@ -36,3 +37,18 @@ optional left k parse os p = chosen left parse os p (next_key left k os p)
 -- no entry is left
 abbrev pub ended : {X : Type 0} → ℕ → X → Option X
 ended left x = cond (left == 0) (Some x) None
+
+-- the entries start where the head of the map says, in these octets, with so many above the required ones
+abbrev pub Opens : List ℕ → Option Entries → Option (ℕ × ℕ) → Type 0
+Opens os None came = came ≡ None
+Opens os (Some e) came = (e.octets.now ≡ os) × (came ≡ Some (e.left, e.place))
+
+-- a value was read, and the entries go on behind it, or none was
+abbrev pub Reads : {V : Type 0} → Option V → Entries → Entries → Option (V × ℕ) → Type 0
+Reads None old new came = came ≡ None
+Reads (Some v) old new came = (came ≡ Some (v, new.place)) × (new.octets.now ≡ old.octets.now) × (new.left ≡ old.left)
+
+-- the same, where fewer entries may be left
+abbrev pub Leaves : {V : Type 0} → Option V → Entries → Entries → Option (V × ℕ × ℕ) → Type 0
+Leaves None old new came = came ≡ None
+Leaves (Some v) old new came = (came ≡ Some (v, new.left, new.place)) × (new.octets.now ≡ old.octets.now)

@@ -1,27 +1,12 @@
-use Rattle.std.proofs.Common.{sym, arith, rules}
-use Rattle.message.specs.Parts.{meta_at}
+use Rattle.std.proofs.Common.{sym, ◌∙◌, arith}
 use Rattle.message.specs.Entries.{context_at}
-use Rattle.message.proofs.Bounds.{map_on, context_on, optional-on}
+use Rattle.message.proofs.Bounds.{map_on, context_on, optional-on, ended_is}
 use Rattle.message.proofs.parts.meta_at.Goals as goal
 
-pub returns-in_err-left : goal.returns-in_err-left
-unfolding meta_at
-returns-in_err-left c = search rules
-
-pub returns-in_err-echo : goal.returns-in_err-echo
-unfolding meta_at
-returns-in_err-echo c = search rules
-
-pub returns-then-left-ne0 : goal.returns-then-left-ne0
-unfolding meta_at
-returns-then-left-ne0 c = search rules
-
+-- the entries end behind the head of the map
 pub overflow_sub-span : goal.overflow_sub-span
 overflow_sub-span c =
-    let h = map_on _ _ _ _ _ (sym c.in_ok-left.ensures) in
-    let e = optional-on _ _ context_at context_on _ _ _ _ _ (sym c.in_ok-echo.ensures) in
-    omega (arith, h.on, e)
-
-pub returns : goal.returns
-unfolding meta_at
-returns c = search rules
+    let opens = map_on _ _ _ _ _ c.in_ok-entries.ensures.1 in
+    let goes = optional-on _ context_at context_on c.in_ok-entries.entries c.optional.new.self _ c.in_ok-echo.ensures in
+    let ends = ended_is _ _ _ (sym c.end.ensures ∙ c.in_ok-behind.was) in
+    omega (arith, opens.on, goes, ends)
