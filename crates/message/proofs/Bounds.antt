@@ -23,8 +23,8 @@ pub bound : {V W : Type 0} (r : Option V) (k : V → Option W) (x : W) → bind 
 bound None k x is = cc
 bound (Some y) k x is = record { got = y; first = refl; rest = is }
 
-pub ended_is : {X : Type 0} (left : ℕ) (x y : X) → ended left x ≡ Some y → x ≡ y
-ended_is left x y is = (cond_some (eqb left 0) x y is).1
+pub ended_is : {X : Type 0} (left : ℕ) (x y : X) → ended left x ≡ Some y → (left ≡ 0) × (x ≡ y)
+ended_is left x y is = let c = cond_some (eqb left 0) x y is in (grind (arith, nat_tests, c.0), c.1)
 
 pub record Lies (os : List ℕ) (s : Span) (q : ℕ) : Type 0 where
   pub on : s.start + s.len ≡ q
@@ -45,9 +45,6 @@ string_lies m os p s q is =
 pub lies_shown : (os : List ℕ) (s : Span) (q : ℕ) → Lies os s q → shown os s ≡ Some (part os s.start s.len)
 unfolding shown
 lies_shown os s q l = grind (arith, nat_tests, l.on, l.within)
-
-pub part-long : (os : List ℕ) (p n : ℕ) → p + n ≤ length os → length (part os p n) ≡ n
-part-long os p n h = length-take-le n (drop p os) (omega (arith, length-drop p os))
 
 pub id_some : (os : List ℕ) (p : ℕ) (s : Span) (q : ℕ) → Some (s, q) ≡ string_at 2 os p → s.len ≡ 16 → id_at os p ≡ Some (part os s.start 16, q)
 unfolding id_at

@@ -10,19 +10,18 @@ module _ (os : List ℕ) (p : ℕ) where
   fit_past zero h = refl
   fit_past (suc n) h = let e : ltb p (length os) ≡ false = grind (arith, nat_tests) in ap (λ b. cond b (onward (next_head os p) (strings_fit n os)) true) e
 
-  fit_one : (m n : ℕ) → m ≡ suc n → p < length os → (o : Option ℕ) → o ≡ next_head os p → strings_fit m os p ≡ onward o (strings_fit n os)
+  -- before it the head there is met
+  pub fit_one : (n : ℕ) → p < length os → strings_fit (suc n) os p ≡ onward (next_head os p) (strings_fit n os)
   unfolding strings_fit
-  fit_one m n more h o is =
-      let e : ltb p (length os) ≡ true = grind (arith, nat_tests) in
-      ap (λ k. strings_fit k os p) more ∙ (λ i. cond (e i) (onward (sym is i) (strings_fit n os)) true)
+  fit_one n h = let e : ltb p (length os) ≡ true = grind (arith, nat_tests) in rw e
 
   -- a string that is too long ends the way
   pub fit_none : (m n : ℕ) → m ≡ suc n → p < length os → None ≡ next_head os p → strings_fit m os p ≡ false
-  fit_none m n more h is = fit_one m n more h None is
+  fit_none m n more h is = rw (more, fit_one n h, sym is)
 
   -- any other head is passed
   pub fit_some : (m n r : ℕ) → m ≡ suc n → p < length os → Some r ≡ next_head os p → strings_fit m os p ≡ strings_fit n os r
-  fit_some m n r more h is = fit_one m n more h (Some r) is
+  fit_some m n r more h is = rw (more, fit_one n h, sym is)
 
 pub fit_end : (m : ℕ) (os : List ℕ) (p : ℕ) → m ≡ 0 → strings_fit m os p ≡ true
 unfolding strings_fit

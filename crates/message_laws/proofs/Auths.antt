@@ -10,8 +10,8 @@ use Rattle.message.specs.declared.types.Auth.{Auth}
 use Rattle.message.specs.Entries.{map_of, id_at, alg_at, context_at, optional}
 use Rattle.message.specs.Parts.{auth_at}
 use Rattle.message.specs.Fields.{optionally, auth_tree}
-use Rattle.message.proofs.Bounds.{string_lies}
-use Rattle.message_laws.proofs.Ways.{id_parses, IsAlg, alg-parses, context_parses, map-sound, map_back, Given, optional-sound, optional-back, optionally-few, no_key, ended_is}
+use Rattle.message.proofs.Bounds.{string_lies, ended_is}
+use Rattle.message_laws.proofs.Ways.{id_parses, IsAlg, alg-parses, context_parses, map-sound, map_back, Given, optional-sound, optional-back, optionally-few, no_key}
 use Rattle.message_laws.proofs.Cmds.{Short}
 use Rattle.message_laws.specs.Shows.{Both}
 

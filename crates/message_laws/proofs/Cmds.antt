@@ -11,7 +11,8 @@ use Rattle.message.specs.declared.types.Meta.{Meta}
 use Rattle.message.specs.Entries.{map_of, context_at, optional}
 use Rattle.message.specs.Parts.{cmd_at, meta_at}
 use Rattle.message.specs.Fields.{optionally, cmd_tree, meta_tree}
-use Rattle.message_laws.proofs.Ways.{Parses, parses, context_parses, map-sound, map_back, Given, optional-sound, optional-back, optionally-few, no_key, ended_is}
+use Rattle.message.proofs.Bounds.{ended_is}
+use Rattle.message_laws.proofs.Ways.{Parses, parses, context_parses, map-sound, map_back, Given, optional-sound, optional-back, optionally-few, no_key}
 use Rattle.message_laws.specs.Shows.{Both, MapSpot, MetaShows}
 
 -- the fields of cmd

@@ -1,5 +1,6 @@
 -- Octets pass exactly when they encode fields that a message may have.
 use Rattle.std.proofs.Common.{◌≡◌, ℕ, Bool, true, false, cond, List, [], Some, None, Ok, Err, Option, Result, sym, refl, ap, ◌∙◌, subst, arith, MatchResult}
+use Rattle.std.proofs.lemmas.Option.{same_Some}
 use Rattle.answers.specs.declared.refusal.Refusal.{Refusal}
 use Rattle.answers.specs.declared.refusal.Refusal.TheVariants as refusal
 use Rattle.items.specs.declared.types.Fault.{Fault}
@@ -9,7 +10,6 @@ use Rattle.items.specs.Reading.{read_of, containers}
 use Rattle.items.specs.Trees.{Item, unsigned, negative, bytes, text, array, map, simple_false, simple_true, simple_null, Entries, no_entries, encoding, Canonical, value_of}
 use Rattle.items_laws.specs.Laws.{Octets, Passes}
 use Rattle.items_laws.proofs.Passing.{read-sound, read_back}
-use Rattle.items_laws.proofs.Runnings.{some_same}
 use Rattle.items_laws.proofs.Unique.{one-tree}
 use Rattle.message.specs.declared.message.Message.{Message}
 use Rattle.message.specs.declared.types.View.{View}
@@ -22,12 +22,6 @@ use Rattle.message_laws.specs.Laws.{Encodes, EncodesNone}
 use Rattle.message_laws.proofs.Views.{Laid, view-sound, view-back}
 use Rattle.message_laws.proofs.Valids.{valid-good, good-valid, tree-within}
 
-pub ok_err : {X E : Type 0} {x : X} {e : E} → Ok x ≡ Err e → ⊥
-ok_err p = let z : ◌≡◌ {A = ℕ} 0 1 = cc in omega arith
-
-pub ok_same : {X E : Type 0} {x y : X} → ◌≡◌ {A = Result X E} (Ok x) (Ok y) → x ≡ y
-ok_same p = cc
-
 -- what a message that was read has passed
 pub record Passed (os : List ℕ) (v : View) : Type 0 where
   pub reads : Passes (read_of os)
@@ -38,17 +32,17 @@ unfolding message_of
 passed os v is = by (read_of os) refl (view_of os) refl is
   where
     schema : (o : Option View) → or_schema o ≡ Ok v → o ≡ Some v
-    schema None got = absurd (ok_err (sym got))
-    schema (Some w) got = ap Some (ok_same got)
+    schema None got = cc
+    schema (Some w) got = cc
 
     decide : (b : Bool) (r : Result View Refusal) → cond b r (Err refusal.NotDeterministic) ≡ Ok v → (b ≡ true) × (r ≡ Ok v)
     decide true r got = (refl, got)
-    decide false r got = absurd (ok_err (sym got))
+    decide false r got = cc
 
     by : (r : Result Reading Fault) → read_of os ≡ r → (o : Option View) → view_of os ≡ o
         → cond (readable r) (cond (definite r) (cond (deterministic r) (or_schema o) (Err refusal.NotDeterministic)) (Err refusal.Indefinite)) (Err refusal.CborParse) ≡ Ok v → Passed os v
-    by (Err Malformed) eq o eqo got = absurd (ok_err (sym got))
-    by (Err Indefinite) eq o eqo got = absurd (ok_err (sym got))
+    by (Err Malformed) eq o eqo got = cc
+    by (Err Indefinite) eq o eqo got = cc
     by (Ok r) eq o eqo got =
         let d = decide r.deterministic (or_schema o) got in
         record { reads = eq ∙ (λ i. Ok (record { deterministic = d.0 i })); shown = eqo ∙ schema o d.1 }
@@ -173,7 +167,7 @@ message-sound os octet v is =
     let t = read-sound os octet p.reads in
     let same : tree f ≡ t.tree = one-tree os (tree f) t.tree 40 containers (tree-within f s.1) t.canonical.within s.2 t.is in
     let b = view-back os f s.1 s.2 in
-    let v' : b.view ≡ v = some_same (sym b.is ∙ p.shown) in
+    let v' : b.view ≡ v = same_Some _ _ (sym b.is ∙ p.shown) in
     record {
       fields = f;
       valid = good-valid f s.1 (subst Canonical (sym same) t.canonical);
@@ -196,7 +190,7 @@ message-back os f ok e =
     record { view = b.view; is = message_ok os (record { deterministic = true }) b.view (sym r) refl (sym b.is); shows = b.shows; laid = b.laid }
 
 pub message-none : (os : List ℕ) (e : Refusal) → message_of os ≡ Err e → EncodesNone os
-message-none os e is f ok same = ok_err (sym (message-back os f ok same).is ∙ is)
+message-none os e is f ok same = let clash = sym (message-back os f ok same).is ∙ is in cc
 
 -- what is shown of the fields that os encode
 pub record Of (os : List ℕ) (v : View) (f : Fields) : Type 0 where
@@ -206,7 +200,8 @@ pub record Of (os : List ℕ) (v : View) (f : Fields) : Type 0 where
 pub of_fields : (os : List ℕ) (v : View) (f : Fields) → Valid f → encoding (tree f) ≡ os → message_of os ≡ Ok v → Of os v f
 of_fields os v f ok e is =
     let b = message-back os f ok e in
-    let same : b.view ≡ v = ok_same (sym b.is ∙ is) in
+    let came = sym b.is ∙ is in
+    let same : b.view ≡ v = cc in
     subst (λ w. Of os w f) same (record { shows = b.shows; laid = b.laid })
 
 -- by the result of the reading

@@ -9,7 +9,8 @@ use Rattle.message.specs.declared.types.Mid.{Mid}
 use Rattle.message.specs.Entries.{map_of, id_at, optional}
 use Rattle.message.specs.Parts.{mid_at}
 use Rattle.message.specs.Fields.{optionally, mid_tree}
-use Rattle.message_laws.proofs.Ways.{Parses, parses, id_parses, map-sound, map_back, Given, optional-sound, optional-back, optionally-few, no_key, ended_is, same_option}
+use Rattle.message.proofs.Bounds.{ended_is}
+use Rattle.message_laws.proofs.Ways.{Parses, parses, id_parses, map-sound, map_back, Given, optional-sound, optional-back, optionally-few, no_key, same_option}
 
 -- the fields of mid
 pub record MidFields : Type 0 where

@@ -1,5 +1,6 @@
 -- The strings of an encoding, met head by head, are those of its tree.
 use Rattle.std.proofs.Common.{◌≡◌, ℕ, suc, ◌+◌, ◌/◌, ◌%◌, ◌^◌, ◌<◌, ◌≤◌, Bool, true, false, cond, ◌&&◌, eqb, ltb, leb, List, [], ◌∷◌, ◌++◌, length, get_or, Some, None, sym, refl, ap, ◌∙◌, add_assoc, arith, length-append}
+use Rattle.std.proofs.Math.Bool.{and_assoc}
 use Rattle.std.proofs.lemmas.Bool.Decides.{nat_tests}
 use Rattle.items.specs.declared.types.Span.{Span}
 use Rattle.items.specs.Heads.{head_size}
@@ -11,7 +12,7 @@ use Rattle.items_laws.proofs.Runnings.{argument-back, bytes-exact, text-exact}
 use Rattle.message.specs.Fields.{strings_short, items_short, entries_short}
 use Rattle.message.specs.Sizes.{bytes_most, text_most, next_head, onward, strings_fit}
 use Rattle.message.proofs.Bounds.{argument-on}
-use Rattle.message.proofs.Scans.{fit_some}
+use Rattle.message.proofs.Scans.{fit_one, fit_some}
 
 -- a head that is no string's is passed
 next-plain : (xs : List ℕ) (p len : ℕ) → (get_or xs p 0 / 32 ≡ 2 → ⊥) → (get_or xs p 0 / 32 ≡ 3 → ⊥) → head_size xs p ≡ len → p + len ≤ length xs → next_head xs p ≡ Some (p + len)
@@ -38,10 +39,6 @@ next-text xs p major s q is =
 chosen_way : (b : Bool) (q : ℕ) (f : ℕ → Bool) → onward (cond b (Some q) None) f ≡ (b && f q)
 chosen_way true q f = refl
 chosen_way false q f = refl
-
-fit_one : (xs : List ℕ) (p n : ℕ) → p < length xs → strings_fit (suc n) xs p ≡ onward (next_head xs p) (strings_fit n xs)
-unfolding strings_fit
-fit_one xs p n h = let e : ltb p (length xs) ≡ true = grind (arith, nat_tests) in rw e
 
 -- the head of major type m with argument n is passed
 pub fit_head : (xs : List ℕ) (p m n k : ℕ) → n < 2 ^ 64 → (m ≡ 2 → ⊥) → (m ≡ 3 → ⊥) → At xs p (head_of m n) → strings_fit (suc k) xs p ≡ strings_fit k xs (p + length (head_of m n))
@@ -79,10 +76,6 @@ fit_text xs p bs k good a =
     let o = argument-on 3 xs p (length bs) _ (argument-back xs 3 p (length bs) _ good.fits (record { at = at_left xs p (head_of 3 (length bs)) bs a; on = refl })) in
     fit_one xs p k o.within ∙ ap (λ y. onward y (strings_fit k xs)) (next-text xs p o.major s _ e.1)
     ∙ chosen_way (leb s.len text_most) _ (strings_fit k xs) ∙ ap (λ n. leb n text_most && strings_fit k xs (p + length (head_of 3 (length bs) ++ bs))) e.2.long
-
-and_assoc : (a b c : Bool) → (a && b) && c ≡ (a && (b && c))
-and_assoc true b c = refl
-and_assoc false b c = refl
 
 on_sum : (xs : List ℕ) (n p : ℕ) (a b : List ℕ) → strings_fit n xs (p + length a + length b) ≡ strings_fit n xs (p + length (a ++ b))
 on_sum xs n p a b = ap (strings_fit n xs) (omega (arith, length-append a b))

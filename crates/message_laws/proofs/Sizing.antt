@@ -1,5 +1,6 @@
 -- The sizes of a message, on its fields.
 use Rattle.std.proofs.Common.{◌≡◌, ℕ, suc, ◌+◌, ◌-◌, ◌^◌, ◌<◌, ◌≤◌, Bool, true, false, ◌&&◌, leb, List, ◌∷◌, ◌++◌, length, Some, None, Option, sym, refl, ap, ◌∙◌, append_assoc, append-nil, arith, length-append}
+use Rattle.std.proofs.Math.Bool.{and_assoc, and-true}
 use Rattle.items.specs.Trees.{unsigned, bytes, map, Entries, no_entries, head_of, encoding, entries_encoding, total, entries_total, Within, EntriesWithin}
 use Rattle.items_laws.proofs.Unique.{whole-at}
 use Rattle.items_laws.proofs.Written.{at_left, at_right}
@@ -57,14 +58,10 @@ module _ (n m k : ℕ) (es us : Entries) (d c : ℕ) (n-fits : n < 2 ^ 64) (m-fi
       ∙ fit_head line p₃ 5 m _ m-fits (λ e. omega arith) (λ e. omega arith) (at_left line p₃ (head_of 5 m) _ a₃)
       ∙ fit_entries line us p₄ left c us-in a₄
       ∙ ap (λ b. entries_short us && b) (fit_past line _ left (omega arith))
-      ∙ and_true (entries_short us))
+      ∙ and-true (entries_short us))
     where
       lengths : (a b c d e : List ℕ) → length (a ++ (b ++ (c ++ (d ++ e)))) ≡ 0 + length a + length b + length c + length d + length e
       lengths a b c d e = simp length-append (omega arith)
-
-      and_true : (b : Bool) → b && true ≡ b
-      and_true true = refl
-      and_true false = refl
 
 module _ (es us : Entries) (d c : ℕ) (es-in : EntriesWithin es d) (us-in : EntriesWithin us c) (few : entries_total es + entries_total us ≤ 1024) where
   back_scan : strings_fit 1024 (entries_encoding es ++ entries_encoding us) 0 ≡ (entries_short es && entries_short us)
@@ -79,12 +76,7 @@ module _ (es us : Entries) (d c : ℕ) (es-in : EntriesWithin es d) (us-in : Ent
       ∙ ap (λ b. entries_short es && b)
       (fit_entries line us p₁ left c us-in (at_right line 0 (entries_encoding es) _ a)
       ∙ ap (λ b. entries_short us && b) (fit_past line _ left (omega (arith, length-append (entries_encoding es) (entries_encoding us))))
-      ∙ and_true (entries_short us))
-    where
-      and_true : (b : Bool) → b && true ≡ b
-      and_true true = refl
-      and_true false = refl
-
+      ∙ and-true (entries_short us))
 front-shape : (f : Fields) → before f (size f) ++ ((161 + bare f.ctx) ∷ front (auth_of f)) ≡ joined (size f) (suc (bare f.ctx)) 4 (firsts f) (ids f)
 unfolding encoding
 front-shape f = rw (one_more f.ctx) (simp (append_assoc, append-nil))
@@ -134,10 +126,6 @@ meta-law os None None b = refl
 meta-law os (Some m) (Some echo) b = ap (λ n. leb n meta_most) b.span.long
 meta-law os None (Some echo) b = absurd b
 meta-law os (Some m) None b = absurd b
-
-and_assoc : (a b c : Bool) → (a && b) && c ≡ (a && (b && c))
-and_assoc true b c = refl
-and_assoc false b c = refl
 
 pub sizes_law : (os : List ℕ) (v : View) (f : Fields) → Valid f → encoding (tree f) ≡ os → Shows os v f → Laid v.auth f → sizes_fit os v ≡ Sizes f
 unfolding sizes_fit

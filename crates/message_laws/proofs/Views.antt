@@ -2,13 +2,14 @@
 use Rattle.std.proofs.Common.{◌≡◌, ℕ, suc, ◌+◌, ◌^◌, ◌<◌, ◌≤◌, true, ◌&&◌, eqb, List, ◌++◌, length, Some, None, Option, sym, refl, ap, ◌∙◌, subst, arith, length-append}
 use Rattle.std.proofs.lemmas.Bool.{and_parts}
 use Rattle.std.proofs.lemmas.Bool.Decides.{nat_tests}
+use Rattle.std.proofs.lemmas.Option.{cond_some, same_Some}
 use Rattle.items.specs.declared.types.Span.{Span}
 use Rattle.items.specs.Fields.{argument_at, key_at, map_at}
 use Rattle.items.specs.Trees.{unsigned, bytes, map, Entries, no_entries, head_of, map_size, encoding, entries_encoding, Canonical, Runs}
 use Rattle.items.proofs.Picks.{key-other}
 use Rattle.items_laws.specs.Laws.{Octets}
 use Rattle.items_laws.proofs.Unique.{same-part, whole-at}
-use Rattle.items_laws.proofs.Runnings.{some_same, bound, cond-some, cut, runs_in, argument-back, argument-sound, key-sound, runs_join, map-exact, key-exact, unsigned-exact}
+use Rattle.items_laws.proofs.Runnings.{bound, cut, runs_in, argument-back, argument-sound, key-sound, runs_join, map-exact, key-exact, unsigned-exact}
 use Rattle.message.specs.declared.types.Mid.{Mid}
 use Rattle.message.specs.declared.types.Cmd.{Cmd}
 use Rattle.message.specs.declared.types.Auth.{Auth}
@@ -77,7 +78,7 @@ body-sound os octet p x q is =
     let h = bound (cmd_at os g.got) _ _ g.rest in
     let i = bound (key_at 4 os h.got.1) _ _ h.rest in
     let j = bound (auth_at os i.got) _ _ i.rest in
-    let on : j.got.1 ≡ q = ap (λ y. y.1) (some_same j.rest) in
+    let on : j.got.1 ≡ q = ap (λ y. y.1) (same_Some _ _ j.rest) in
     let ra = key-sound os octet 0 p a.got a.first in
     let rb = key-sound os octet 1 a.got b.got b.first in
     let rc = key-sound os octet 1 b.got c.got c.first in
@@ -110,7 +111,7 @@ view-sound os octet v is =
     let b = bound (body_at os a.got.1) _ _ a.rest in
     let c = bound (optional a.got.0 5 meta_at os b.got.1) _ _ b.rest in
     let d = bound (optional c.got.1 6 map_at os c.got.2) _ _ c.rest in
-    let e = cond-some (eqb d.got.1 0 && eqb d.got.2 (length os)) _ _ d.rest in
+    let e = cond_some (eqb d.got.1 0 && eqb d.got.2 (length os)) _ _ d.rest in
     let t = and_parts (eqb d.got.1 0) (eqb d.got.2 (length os)) e.0 in
     let none : d.got.1 ≡ 0 = grind (arith, nat_tests, t.0) in
     let end : d.got.2 ≡ length os = grind (arith, nat_tests, t.1) in

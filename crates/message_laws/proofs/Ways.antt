@@ -1,6 +1,7 @@
 -- Single entries are read exactly where they are encoded.
 use Rattle.std.proofs.Common.{◌≡◌, ℕ, suc, ◌+◌, ◌-◌, ◌^◌, ◌<◌, ◌≤◌, Bool, true, false, cond, ◌&&◌, eqb, leb, List, ◌++◌, length, Some, None, Option, sym, refl, ap, ◌∙◌, subst, append_assoc, append-nil, arith}
 use Rattle.std.proofs.lemmas.Bool.Decides.{nat_tests}
+use Rattle.std.proofs.lemmas.Option.{cond_some, same_Some}
 use Rattle.items.specs.declared.types.Span.{Span}
 use Rattle.items.specs.Heads.{part}
 use Rattle.items.specs.Fields.{bind, argument_at, key_at, string_at}
@@ -8,8 +9,8 @@ use Rattle.items.specs.Trees.{Item, unsigned, bytes, Entries, no_entries, head_o
 use Rattle.items_laws.specs.Laws.{Octets}
 use Rattle.items_laws.specs.Exact.{Exact, Spot, Same}
 use Rattle.items_laws.proofs.Written.{at_part}
-use Rattle.items_laws.proofs.Runnings.{some_same, bound, cond-some, cut, runs-nothing, runs_in, argument-back, argument-sound, key_back, key-sound, runs_join, bytes-exact}
-use Rattle.message.specs.Entries.{map_of, id_at, alg_at, context_at, next_key, chosen, optional, ended}
+use Rattle.items_laws.proofs.Runnings.{bound, cut, runs-nothing, runs_in, argument-back, argument-sound, key_back, key-sound, runs_join, bytes-exact}
+use Rattle.message.specs.Entries.{map_of, id_at, alg_at, context_at, next_key, chosen, optional}
 use Rattle.message.specs.Fields.{optionally}
 use Rattle.message.proofs.Bounds.{id_some}
 use Rattle.message_laws.specs.Shows.{Both}
@@ -27,7 +28,7 @@ unfolding id_at
 id_sound os octet p v q is =
     let b = bound (string_at 2 os p) (λ x. cond (eqb x.0.len 16) (Some (part os x.0.start 16, x.1)) None) (v, q) is in
     let s : Span = b.got.0 in
-    let c = cond-some (eqb s.len 16) (part os s.start 16, b.got.1) (v, q) b.rest in
+    let c = cond_some (eqb s.len 16) (part os s.start 16, b.got.1) (v, q) b.rest in
     let e = bytes-exact.sound os octet p s b.got.1 b.first in
     let sixteen : s.len ≡ 16 = grind (arith, nat_tests, c.0) in
     (e.0, sym e.3.long ∙ sixteen, subst (Runs os p (encoding (bytes e.0))) (ap (λ y. y.1) c.1) e.2)
@@ -54,7 +55,7 @@ alg-sound : (os : List ℕ) → Octets os → (p n q : ℕ) → alg_at os p ≡ 
 unfolding alg_at encoding
 alg-sound os octet p n q is =
     let b = bound (argument_at 0 os p) (λ x. cond (leb 1 x.0 && leb x.0 3) (Some x) None) (n, q) is in
-    let c = cond-some (leb 1 b.got.0 && leb b.got.0 3) b.got (n, q) b.rest in
+    let c = cond_some (leb 1 b.got.0 && leb b.got.0 3) b.got (n, q) b.rest in
     let low : 1 ≤ b.got.0 = grind (arith, nat_tests, c.0) in
     let high : b.got.0 ≤ 3 = grind (arith, nat_tests, c.0) in
     let e : b.got.0 ≡ n = ap (λ x. x.0) c.1 in
@@ -75,7 +76,7 @@ context_sound : (os : List ℕ) → Octets os → (p : ℕ) (s : Span) (q : ℕ)
 unfolding context_at
 context_sound os octet p s q is =
     let b = bound (string_at 2 os p) (λ x. cond (leb x.0.len 32) (Some x) None) (s, q) is in
-    let c = cond-some (leb b.got.0.len 32) b.got (s, q) b.rest in
+    let c = cond_some (leb b.got.0.len 32) b.got (s, q) b.rest in
     let e = bytes-exact.sound os octet p s q (b.first ∙ ap Some c.1) in
     let few : b.got.0.len ≤ 32 = grind (arith, nat_tests, c.0) in
     let same : b.got.0.len ≡ s.len = ap (λ y. y.0.len) c.1 in
@@ -94,7 +95,7 @@ pub map-sound : (os : List ℕ) → Octets os → (required p left q : ℕ) → 
 unfolding map_of
 map-sound os octet required p left q is =
     let b = bound (argument_at 5 os p) (λ x. cond (leb required x.0) (Some (x.0 - required, x.1)) None) (left, q) is in
-    let c = cond-some (leb required b.got.0) (b.got.0 - required, b.got.1) (left, q) b.rest in
+    let c = cond_some (leb required b.got.0) (b.got.0 - required, b.got.1) (left, q) b.rest in
     let least : required ≤ b.got.0 = grind (arith, nat_tests, c.0) in
     let less : b.got.0 - required ≡ left = ap (λ x. x.0) c.1 in
     let all : b.got.0 ≡ required + left = omega arith in
@@ -148,11 +149,11 @@ module _ {V X : Type 0} (parse : List ℕ → ℕ → Option (V × ℕ)) (item :
       none e = subst (λ y. Took os p left y.1 y.2) e (record { value = None; counted = omega arith; good = tt; runs = runs-nothing inside })
 
       by : (b : Bool) → eqb left 0 ≡ b → (c : Option ℕ) → key_at k os p ≡ c → chosen left parse os p (cond b None c) ≡ Some (o, rest, q) → Took os p left rest q
-      by true z c _ got = none (some_same got)
-      by false z None _ got = none (some_same got)
+      by true z c _ got = none (same_Some _ _ got)
+      by false z None _ got = none (same_Some _ _ got)
       by false z (Some a) eq got =
           let b = bound (parse os a) (λ x. Some (Some x.0, left - 1, x.1)) (o, rest, q) got in
-          let e : ◌≡◌ {A = Option V × ℕ × ℕ} (Some b.got.0, left - 1, b.got.1) (o, rest, q) = some_same b.rest in
+          let e : ◌≡◌ {A = Option V × ℕ × ℕ} (Some b.got.0, left - 1, b.got.1) (o, rest, q) = same_Some _ _ b.rest in
           let h = key-sound os octet k p a eq in
           let x = ways.sound os octet a b.got.0 b.got.1 b.first in
           let some : 1 ≤ left = grind (arith, nat_tests, z) in
@@ -187,9 +188,6 @@ module _ {V X : Type 0} (parse : List ℕ → ℕ → Option (V × ℕ)) (item :
 pub no_key : (k : ℕ) (os : List ℕ) (p : ℕ) → next_key 0 k os p ≡ None
 unfolding next_key
 no_key k os p = refl
-
-pub ended_is : {X : Type 0} (left : ℕ) (x y : X) → ended left x ≡ Some y → (left ≡ 0) × (x ≡ y)
-ended_is left x y is = let c = cond-some (eqb left 0) x y is in (grind (arith, nat_tests, c.0), c.1)
 
 pub same_option : {X : Type 0} (v x : Option X) → Both (λ a b. a ≡ b) v x → v ≡ x
 same_option None None s = refl

@@ -9,4 +9,4 @@ overflow_sub-span c =
     let opens = map_on _ _ _ _ _ c.in_ok-entries.ensures.1 in
     let goes = optional-on _ context_at context_on c.in_ok-entries.entries c.optional.new.self _ c.in_ok-echo.ensures in
     let ends = ended_is _ _ _ (sym c.end.ensures ∙ c.in_ok-behind.was) in
-    omega (arith, opens.on, goes, ends)
+    omega (arith, opens.on, goes, ends.1)
