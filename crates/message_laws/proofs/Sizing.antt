@@ -77,6 +77,7 @@ module _ (es us : Entries) (d c : ℕ) (es-in : EntriesWithin es d) (us-in : Ent
       (fit_entries line us p₁ left c us-in (at_right line 0 (entries_encoding es) _ a)
       ∙ ap (λ b. entries_short us && b) (fit_past line _ left (omega (arith, length-append (entries_encoding es) (entries_encoding us))))
       ∙ and-true (entries_short us))
+
 front-shape : (f : Fields) → before f (size f) ++ ((161 + bare f.ctx) ∷ front (auth_of f)) ≡ joined (size f) (suc (bare f.ctx)) 4 (firsts f) (ids f)
 unfolding encoding
 front-shape f = rw (one_more f.ctx) (simp (append_assoc, append-nil))
