@@ -1,19 +1,16 @@
 -- The first free cell of some places.
-use Rattle.std.proofs.Common.{◌≡◌, ℕ, zero, suc, ◌+◌, ◌-◌, ◌<◌, ◌≤◌, min, true, false, List, [], ◌∷◌, ◌++◌, length, Some, None, Option, sym, refl, ap, ◌∙◌, subst, ⊎_elim, arith}
+use Rattle.std.proofs.Common.{◌≡◌, ℕ, zero, suc, ◌+◌, ◌-◌, ◌<◌, ◌≤◌, min, true, false, List, [], ◌∷◌, ◌++◌, length, Some, None, Option, sym, refl, ap, ◌∙◌, subst, ⊎_elim, arith, MatchOption, is_some}
 use Rattle.std.specs.List.{range_with_len}
-use Rattle.std.proofs.lemmas.Bool.{cases_Bool, cases_lt, cond-true, cond-false}
+use Rattle.std.proofs.lemmas.Bool.{cases_Bool, cases_eq, cases_lt, cond-true, cond-false}
 use Rattle.marks.specs.declared.mark.Cell.{Cell}
 use Rattle.journal.specs.Journals.{is_free, any_free, first_free, going_round, start_after, chosen}
 use Rattle.journal.proofs.Sources.{any_none, any_some}
 
-pub counting_less : (a e : ℕ) → a < e → range_with_len a (e - a) ≡ a ∷ range_with_len (a + 1) (e - (a + 1))
-counting_less a e h = let k : e - a ≡ suc (e - (a + 1)) = omega arith in ap (λ n. range_with_len a n) k
-
-pub counting_none : (a e : ℕ) → e ≤ a → range_with_len a (e - a) ≡ []
+counting_none : (a e : ℕ) → e ≤ a → range_with_len a (e - a) ≡ []
 counting_none a e h = let k : e - a ≡ 0 = omega arith in ap (λ n. range_with_len a n) k
 
 -- a stretch of places in two
-pub counting_split : (k a m : ℕ) → range_with_len a (k + m) ≡ range_with_len a k ++ range_with_len (a + k) m
+counting_split : (k a m : ℕ) → range_with_len a (k + m) ≡ range_with_len a k ++ range_with_len (a + k) m
 counting_split zero a m =
     let e : 0 + m ≡ m = omega arith in
     let f : a ≡ a + 0 = omega arith in
@@ -36,15 +33,35 @@ module _ (cs : List Cell) where
   unfolding first_free
   first-none = refl
 
-  -- a place that is not free, passed
-  pub passed : (i e : ℕ) (r : Option ℕ) → i < e → is_free cs i ≡ false → r ≡ first_free cs (range_with_len i (e - i)) → r ≡ first_free cs (range_with_len (i + 1) (e - (i + 1)))
-  passed i e r h f k = k ∙ ap (λ x. first_free cs x) (counting_less i e h) ∙ first-later i _ f
+  -- what a search from a on finds among n places
+  abbrev pub Found : ℕ → ℕ → Option ℕ → Type 0
+  Found a e o = MatchOption o ((k : ℕ) → a ≤ k → k < e → is_free cs k ≡ false) (λ i. (a ≤ i) × (i < e) × (is_free cs i ≡ true) × ((k : ℕ) → a ≤ k → k < i → is_free cs k ≡ false))
 
-  pub found : (i e : ℕ) → i < e → is_free cs i ≡ true → first_free cs (range_with_len i (e - i)) ≡ Some i
-  found i e h f = ap (λ x. first_free cs x) (counting_less i e h) ∙ first-here i _ f
+  seek : (n a : ℕ) (o : Option ℕ) → Found a (a + n) o → o ≡ first_free cs (range_with_len a n)
+  seek zero a None f = sym first-none
+  seek zero a (Some i) f = absurd (omega (arith, f.0, f.1))
+  seek (suc n) a None f =
+      let h = f a (omega arith) (omega arith) in
+      seek n (a + 1) None (λ k l u. f k (omega arith) (omega arith)) ∙ sym (first-later a _ h)
+  seek (suc n) a (Some i) f =
+      ⊎_elim
+      (λ e. subst (λ x. Some x ≡ first_free cs (a ∷ range_with_len (a + 1) n)) e (sym (first-here a _ (subst (λ x. is_free cs x ≡ true) (sym e) f.2))))
+      (λ ne.
+      let l : a < i = omega (arith, f.0) in
+      let h = f.3 a (omega arith) l in
+      seek n (a + 1) (Some i) (omega arith, omega (arith, f.1), f.2, λ k u v. f.3 k (omega arith) v) ∙ sym (first-later a _ h))
+      (cases_eq a i)
 
-  pub ended : (i e : ℕ) → e ≤ i → first_free cs (range_with_len i (e - i)) ≡ None
-  ended i e h = ap (λ x. first_free cs x) (counting_none i e h) ∙ first-none
+  nothing : (a e : ℕ) (o : Option ℕ) → e ≤ a → Found a e o → o ≡ first_free cs (range_with_len a (e - a))
+  nothing a e None l f = sym first-none ∙ ap (λ x. first_free cs x) (sym (counting_none a e l))
+  nothing a e (Some i) l f = absurd (omega (arith, f.0, f.1))
+
+  pub found : (a e : ℕ) (o : Option ℕ) → Found a e o → o ≡ first_free cs (range_with_len a (e - a))
+  found a e o f =
+      ⊎_elim
+      (λ l. let n : a + (e - a) ≡ e = omega arith in seek (e - a) a o (subst (λ x. Found a x o) (sym n) f))
+      (λ l. nothing a e o l f)
+      (cases_lt a e)
 
   -- two stretches of places, one after the other
   pub first-first : (xs ys : List ℕ) (k : ℕ) → first_free cs xs ≡ Some k → first_free cs (xs ++ ys) ≡ Some k
@@ -115,7 +132,7 @@ from_zero : (cs : List Cell) (n : ℕ) → n ≡ length cs → range_with_len 0 
 from_zero cs n h = let e : n - 0 ≡ length cs = omega arith in ap (λ x. range_with_len 0 x) e
 
 module _ (cs : List Cell) (last : Option ℕ) (a n : ℕ) (at : a ≡ min (start_after last) n) (long : n ≡ length cs) where
-  pub chosen-first : (k : ℕ) → Some k ≡ first_free cs (range_with_len a (n - a)) → Some k ≡ chosen cs last
+  chosen-first : (k : ℕ) → Some k ≡ first_free cs (range_with_len a (n - a)) → Some k ≡ chosen cs last
   chosen-first k h = sym (first-first cs _ _ k (ap (λ x. first_free cs x) (sym (first_stretch cs (start_after last) a n at long)) ∙ sym h))
 
   -- the places from a up are not free, so those below a are all that is left
@@ -127,23 +144,32 @@ module _ (cs : List Cell) (last : Option ℕ) (a n : ℕ) (at : a ≡ min (start
       ∙ ap (λ xs. first_free cs xs) (counting_split (a - 0) 0 (n - a) ∙ ap (λ x. range_with_len 0 (a - 0) ++ range_with_len x (n - a)) up)
       ∙ first-only cs (range_with_len 0 (a - 0)) (range_with_len a (n - a)) (sym h)
 
-  pub chosen_second : (r : Option ℕ) → None ≡ first_free cs (range_with_len a (n - a)) → r ≡ first_free cs (range_with_len 0 (a - 0)) → r ≡ chosen cs last
+  chosen_second : (r : Option ℕ) → None ≡ first_free cs (range_with_len a (n - a)) → r ≡ first_free cs (range_with_len 0 (a - 0)) → r ≡ chosen cs last
   chosen_second r h f =
       f ∙ sym (below-first h)
       ∙ sym (first_second cs _ _ (ap (λ x. first_free cs x) (sym (first_stretch cs (start_after last) a n at long)) ∙ sym h))
 
+  -- the first free cell of the second stretch where the first has none
+  pub chosen_either : (o r : Option ℕ) → o ≡ first_free cs (range_with_len a (n - a)) → MatchOption o (r ≡ first_free cs (range_with_len 0 (a - 0))) (λ k. r ≡ Some k) → r ≡ chosen cs last
+  chosen_either None r h f = chosen_second r h f
+  chosen_either (Some k) r h f = f ∙ chosen-first k h
+
 -- room
 
-pub room-none : (cs : List Cell) (n : ℕ) → n ≡ length cs → None ≡ first_free cs (range_with_len 0 (n - 0)) → false ≡ any_free cs (length cs)
+room-none : (cs : List Cell) (n : ℕ) → n ≡ length cs → None ≡ first_free cs (range_with_len 0 (n - 0)) → false ≡ any_free cs (length cs)
 room-none cs n l h =
     let e : first_free cs (range_with_len 0 (length cs)) ≡ None = ap (λ x. first_free cs x) (sym (from_zero cs n l)) ∙ sym h in
     sym (any_none cs (length cs) (λ j b. none_free cs (length cs) 0 e j (omega arith) (omega arith)))
 
-pub room-some : (cs : List Cell) (n k : ℕ) → n ≡ length cs → Some k ≡ first_free cs (range_with_len 0 (n - 0)) → true ≡ any_free cs (length cs)
+room-some : (cs : List Cell) (n k : ℕ) → n ≡ length cs → Some k ≡ first_free cs (range_with_len 0 (n - 0)) → true ≡ any_free cs (length cs)
 room-some cs n k l h =
     let e : first_free cs (range_with_len 0 (length cs)) ≡ Some k = ap (λ x. first_free cs x) (sym (from_zero cs n l)) ∙ sym h in
     let w = within cs (length cs) 0 k e in
     sym (any_some cs (length cs) k (omega (arith, w.1)) (free-at cs _ k e))
+
+pub room : (cs : List Cell) (n : ℕ) (o : Option ℕ) → n ≡ length cs → o ≡ first_free cs (range_with_len 0 (n - 0)) → is_some o ≡ any_free cs (length cs)
+room cs n None l h = room-none cs n l h
+room cs n (Some k) l h = room-some cs n k l h
 
 -- the chosen cell is one of the cells, and free
 

@@ -89,11 +89,5 @@ module _ (d e : Device) (last : Option ℕ) (p : Pair) (m : Mark) (k : ℕ) (at 
   pub done-raises : WriteDone d k (record_of p m) e → Raises (state_in d) p m Done (state_in e)
   done-raises w = (begun w.powered, completed w)
 
-  pub done-place : WriteDone d k (record_of p m) e → WrittenIn d.cells last p m e.cells (Some k)
-  done-place w = record { cell = k; choice = sym at; cells = w.after; place = refl }
-
   pub cut-raises : (v : CutLeaves) → WriteCut d k (record_of p m) e v → Raises (state_in d) p m Cut (state_in e)
   cut-raises v w = (begun w.powered, (stands v, cut_short v w))
-
-  pub cut-place : (v : CutLeaves) → WriteCut d k (record_of p m) e v → CutIn d.cells last p m e.cells (Some k)
-  cut-place v w = record { cell = k; choice = sym at; leaves = v; cells = w.after; place = refl }

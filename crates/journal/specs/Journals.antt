@@ -1,6 +1,6 @@
 -- Which cell gives a pair's mark, which cells are free, and which of them a raise writes.
 use Rattle.std.specs.Prelude.{◌≡◌, ℕ, zero, suc, ◌+◌, ◌-◌, ◌<◌, Bool, true, false, cond, not, ◌&&◌, ◌||◌, List, [], ◌∷◌, ◌++◌, length, Some, None, Option, ◌==◌, ◌≢◌, slice_set}
-use Rattle.std.specs.List.{range_with_len}
+use Rattle.std.specs.List.{range_with_len, find}
 use Rattle.std.specs.Option.{option_map}
 use Rattle.marks.specs.declared.mark.Pair.{Pair}
 use Rattle.marks.specs.declared.mark.Mark.{Mark}
@@ -87,8 +87,7 @@ state_in d = record { mark = mark_in d.cells; room = room_in d.cells; on = d.on;
 
 -- the first of some places whose cell is free
 unfoldable pub first_free : List Cell → List ℕ → Option ℕ
-first_free cs [] = None
-first_free cs (k ∷ ks) = cond (is_free cs k) (Some k) (first_free cs ks)
+first_free cs ks = find (is_free cs) ks
 
 -- the place after the last written; 0 where none was written since making or switching on
 abbrev pub start_after : Option ℕ → ℕ

@@ -34,7 +34,7 @@ impl<S: Store> Floor<S> {
     pub fn into_store(self) -> S
         ensures { result ≡ self.below }
     {
-        let Floor { below, epoch: _ } = self;
+        let Floor { below, .. } = self;
         below
     }
 }
@@ -48,16 +48,11 @@ impl<S: Store> Store for Floor<S> {
 
     fn mark(&self, pair: Pair) -> Option<Mark> {
         let floor = floor_mark(self.epoch);
-        match self.below.mark(pair) {
-            None => Some(floor),
-            Some(m) => {
-                if m.position.is_before(floor.position) {
-                    Some(floor)
-                } else {
-                    Some(m)
-                }
-            }
-        }
+        let mark = self
+            .below
+            .mark(pair)
+            .filter(|m| m.position >= floor.position);
+        Some(mark.unwrap_or(floor))
     }
 
     fn has_room(&self, pair: Pair) -> bool {
@@ -80,7 +75,7 @@ impl<S: Store> Store for Floor<S> {
         if !self.below.is_on() {
             return Raised::Off;
         }
-        if !floor_mark(self.epoch).position.is_before(new.position) {
+        if new.position <= floor_mark(self.epoch).position {
             return Raised::Low;
         }
         self.below.raise(pair, new)

@@ -2,39 +2,25 @@
 ghost use Rattle.std.specs.Prelude.{◌≡◌, ◌-◌, min, None};
 ghost use Rattle.std.specs.List.{range_with_len};
 ghost use Rattle.marks.specs.State.{Raises, RaiseMoves, SwitchedOn};
-ghost use Rattle.journal.specs.Journals.{overtakes, supersedes, source_in, is_free, first_free, start_after, chosen, state_in, Journals, JournalTouches, JournalRests};
+ghost use Rattle.journal.specs.Journals.{supersedes, source_in, is_free, first_free, start_after, chosen, state_in, Journals, JournalTouches, JournalRests};
 
 use crate::source::Source;
 use marks::cells::Cells;
 use marks::mark::{Cell, Mark, Pair, Raised, Record, Written};
 use marks::store::Store;
 
-// Whether a mark lies above the source found so far.
-fn is_over(mark: Mark, found: Option<Source>) -> bool
-    ensures { result ≡ overtakes found mark }
-{
-    match found {
-        None => true,
-        Some(s) => s.mark.position.is_before(mark.position),
-    }
-}
-
 // Whether a record becomes the source of a pair's mark, given the one found so far.
 fn takes_over(pair: Pair, held: Record, found: Option<Source>) -> bool
     ensures { result ≡ supersedes pair found held }
 {
-    pair.is_same(held.pair) && is_over(held.mark, found)
+    pair == held.pair && found.is_none_or(|s| s.mark.position < held.mark.position)
 }
 
 // Where to begin to look among n cells, after the one last written.
 fn start(last: Option<usize>, n: usize) -> usize
     ensures { result ≡ min (start_after last) n }
 {
-    match last {
-        None => 0,
-        Some(k) if k < n => k + 1,
-        Some(_) => n,
-    }
+    last.map_or(0, |k| k.saturating_add(1).min(n))
 }
 
 #[derive(Drop)]
@@ -63,7 +49,7 @@ impl<C: Cells> Journal<C> {
     pub fn into_cells(self) -> C
         ensures { result ≡ self.cells }
     {
-        let Journal { cells, last: _ } = self;
+        let Journal { cells, .. } = self;
         cells
     }
 
@@ -97,12 +83,8 @@ impl<C: Cells> Journal<C> {
         ensures { result ≡ is_free (C.Cells.device self.now.cells).cells i }
     {
         match self.cells.read(i) {
-            Cell::Blank => true,
-            Cell::Torn => true,
-            Cell::Held(held) => match self.source(held.pair) {
-                None => true,
-                Some(s) => s.cell != i,
-            },
+            Cell::Blank | Cell::Torn => true,
+            Cell::Held(held) => self.source(held.pair).is_none_or(|s| s.cell != i),
         }
     }
 
@@ -110,12 +92,7 @@ impl<C: Cells> Journal<C> {
     fn find_free(&self, a: usize, e: usize) -> Option<usize>
         ensures { result ≡ first_free (C.Cells.device self.now.cells).cells (range_with_len a (e - a)) }
     {
-        for i in a..e {
-            if self.is_free(i) {
-                return Some(i);
-            }
-        }
-        None
+        (a..e).find(|i| self.is_free(*i))
     }
 
     // The cell that a raise would write: the first free one after the last written, going round to cell 0.
@@ -124,10 +101,8 @@ impl<C: Cells> Journal<C> {
     {
         let n = self.cells.count();
         let first = start(self.last, n);
-        match self.find_free(first, n) {
-            Some(k) => Some(k),
-            None => self.find_free(0, first),
-        }
+        self.find_free(first, n)
+            .or_else(|| self.find_free(0, first))
     }
 }
 
@@ -139,17 +114,11 @@ impl<C: Cells> Store for Journal<C> {
     ghost rests = { λ j k. JournalRests (C.Cells.rests j.cells k.cells) k.last };
 
     fn mark(&self, pair: Pair) -> Option<Mark> {
-        match self.source(pair) {
-            None => None,
-            Some(s) => Some(s.mark),
-        }
+        self.source(pair).map(|s| s.mark)
     }
 
     fn has_room(&self, _pair: Pair) -> bool {
-        match self.find_free(0, self.cells.count()) {
-            None => false,
-            Some(_) => true,
-        }
+        self.find_free(0, self.cells.count()).is_some()
     }
 
     fn is_on(&self) -> bool {

@@ -1,6 +1,6 @@
 -- The law of runs, by induction.
-use Rattle.std.proofs.Common.{◌≡◌, Bool, true, false, cond, ◌&&◌, eqb, Some, None, Option, sym, refl, ap, ◌∙◌, subst, inl, inr, ⊎_elim, arith}
-use Rattle.std.proofs.lemmas.Bool.{cases_Bool, and_parts, cond-true, cond-false, true≢false, eq-eqb, ne_eqb}
+use Rattle.std.proofs.Common.{◌≡◌, Bool, true, false, cond, ◌&&◌, Some, None, Option, sym, refl, ap, ◌∙◌, subst, inl, inr, ⊎_elim, arith}
+use Rattle.std.proofs.lemmas.Bool.{cases_Bool, and_parts, cond-true, cond-false, true≢false}
 use Rattle.std.proofs.lemmas.Bool.Decides.{nat_tests, not_from_Decides}
 use Rattle.marks.specs.declared.mark.Pair.{Pair}
 use Rattle.marks.specs.declared.mark.Position.{Position}
@@ -10,7 +10,7 @@ use Rattle.marks.specs.declared.mark.Raised.TheVariants.{Off, Low, Full, Cut, Do
 use Rattle.marks.specs.Positions.{before, above, same_pair}
 use Rattle.marks.specs.State.{State, Others, CutShort, Raises}
 use Rattle.marks.proofs.Pairs.{pair_decides}
-use Rattle.journal_laws.specs.Runs.{Run, begun, raised, switched, wrote, last_mark, NotLower, Spares, Lawful, answer_of}
+use Rattle.journal_laws.specs.Runs.{Run, begun, raised, switched, wrote, last_mark, NotLower, Spares, Lawful}
 
 before_trans : (a b c : Position) → before a b ≡ true → before b c ≡ true → before a c ≡ true
 before_trans a b c h k = grind (arith, nat_tests)
@@ -92,16 +92,3 @@ spared (switched run n x) q h = x.marks q ∙ spared run q h
 
 pub law : {s t : State} (run : Run s t) → Lawful run
 law run = record { rising = rising run; last = last run; spared = spared run }
-
--- the answer of a raise
-
-pub one_answer : (s t : State) (p : Pair) (m : Mark) (w : Raised) → Raises s p m w t → w ≡ answer_of s p m
-one_answer s t p m Off x = sym (cond-false s.on _ _ x.off)
-one_answer s t p m Low x = sym (cond-true s.on _ _ x.powered ∙ cond-false (above (s.mark p) m.position) _ _ x.low)
-one_answer s t p m Full x = sym (cond-true s.on _ _ x.powered ∙ cond-true (above (s.mark p) m.position) _ _ x.higher ∙ cond-false (s.room p) _ _ x.full)
-one_answer s t p m Cut x =
-    sym (cond-true s.on _ _ x.0.powered ∙ cond-true (above (s.mark p) m.position) _ _ x.0.higher ∙ cond-true (s.room p) _ _ x.0.roomy
-    ∙ cond-true (eqb s.charge 0) _ _ (eq-eqb _ _ x.1.1.empty))
-one_answer s t p m Done x =
-    sym (cond-true s.on _ _ x.0.powered ∙ cond-true (above (s.mark p) m.position) _ _ x.0.higher ∙ cond-true (s.room p) _ _ x.0.roomy
-    ∙ cond-false (eqb s.charge 0) _ _ (ne_eqb _ _ (λ e. omega (arith, x.1.paid))))

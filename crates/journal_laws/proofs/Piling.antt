@@ -1,8 +1,8 @@
 -- A pile of floors acts as its highest.
-use Rattle.std.proofs.Common.{◌≡◌, ℕ, ◌+◌, ◌<◌, ◌≤◌, max, Bool, true, false, cond, eqb, List, [], ◌∷◌, ◌++◌, length, get_or, take, Some, None, Option, sym, refl, ap, ◌∙◌, subst, ⊎_elim, arith, MatchOption}
+use Rattle.std.proofs.Common.{◌≡◌, ℕ, ◌<◌, ◌≤◌, max, Bool, true, false, cond, eqb, List, [], ◌∷◌, ◌++◌, Some, None, Option, sym, refl, ap, ◌∙◌, subst, ⊎_elim, arith, append_assoc, append-nil, MatchOption}
 use Rattle.std.proofs.lemmas.Bool.{cases_lt, cond-true, cond-false}
 use Rattle.std.proofs.lemmas.Bool.Decides.{nat_tests}
-use Rattle.std.proofs.lemmas.List.{take_more, take_all}
+use Rattle.std.specs.List.{fold, reduce}
 use Rattle.marks.specs.declared.mark.Pair.{Pair}
 use Rattle.marks.specs.declared.mark.Mark.{Mark}
 use Rattle.marks.specs.declared.mark.Raised.{Raised}
@@ -69,34 +69,11 @@ one_more h e fs a s =
     let k = pile-push fs e s in
     alike _ _ (λ p. ap (λ z. z.mark p) k ∙ x.marks p ∙ twice h e (s.mark p)) (λ p. ap (λ z. z.room p) k ∙ x.rooms p) (ap (λ z. z.on) k ∙ x.power) (ap (λ z. z.charge) k ∙ x.charges)
 
--- the loop: what acts as the first i floors
-abbrev pub SoFar : List ℕ → ℕ → Option ℕ → Type 0
-SoFar es i o = MatchOption o (i ≡ 0) (λ f. ActsAs f (take i es))
+heap : (h : ℕ) (fs es : List ℕ) → ActsAs h fs → ActsAs (fold max h es) (fs ++ es)
+heap h fs [] a = subst (λ x. ActsAs h x) (sym (append-nil fs)) a
+heap h fs (e ∷ es) a = subst (λ x. ActsAs (fold max (max h e) es) x) (append_assoc fs (e ∷ []) es) (heap (max h e) (fs ++ (e ∷ [])) es (one_more h e fs a))
 
-module _ (es : List ℕ) (i e : ℕ) (inside : i < length es) (here : e ≡ get_or es i 0) where
-  push : take i es ++ (e ∷ []) ≡ take (i + 1) es
-  push = ap (λ x. take i es ++ (x ∷ [])) here ∙ sym (take_more es i 0 inside)
-
-  pub first : i ≡ 0 → ActsAs e (take (i + 1) es)
-  first z =
-      let k : take i es ++ (e ∷ []) ≡ e ∷ [] = ap (λ x. take x es ++ (e ∷ [])) z in
-      subst (λ x. ActsAs e x) (sym k ∙ push) (one-floor e)
-
-  pub further : (h f : ℕ) → f ≡ max h e → ActsAs h (take i es) → ActsAs f (take (i + 1) es)
-  further h f m a = subst (λ x. ActsAs f x) push (subst (λ x. ActsAs x (take i es ++ (e ∷ []))) (sym m) (one_more h e (take i es) a))
-
-  pub joined : (o : Option ℕ) (r : ℕ) → SoFar es i o → MatchOption o (r ≡ e) (λ h. r ≡ max h e) → ActsAs r (take (i + 1) es)
-  joined None r x k = subst (λ y. ActsAs y (take (i + 1) es)) (sym k) (first x)
-  joined (Some h) r x k = further h r k x
-
-none_left : (es : List ℕ) → length es ≡ 0 → es ≡ []
-none_left es h = sym (take_all 0 es (omega arith))
-
-pub ended : (es : List ℕ) (i : ℕ) (o : Option ℕ) → i ≡ length es → SoFar es i o → MatchOption o (es ≡ []) (λ f. ActsAs f es)
-ended es i None e x = let z : length es ≡ 0 = omega arith in none_left es z
-ended es i (Some f) e x = let l : length es ≤ i = omega arith in subst (λ y. ActsAs f y) (take_all i es l) x
-
-pub two_floors : (u l u' l' : ℕ) (s s' : State) → u' ≡ u → l' ≡ l → s' ≡ s → Alike (on_floor (max u l) s) (on_floor u' (on_floor l' s'))
-two_floors u l u' l' s s' e f g =
-    alike _ _ (λ p. ap (λ x. floored x (floored l' (s'.mark p))) e ∙ ap (λ x. floored u (floored x (s'.mark p))) f ∙ ap (λ x. floored u (floored l (x.mark p))) g ∙ twice u l (s.mark p))
-    (λ p. ap (λ x. x.room p) g) (ap (λ x. x.on) g) (ap (λ x. x.charge) g)
+-- a pile of floors acts as the highest of them
+pub highest : (es : List ℕ) (o : Option ℕ) → o ≡ reduce max es → MatchOption o (es ≡ []) (λ f. ActsAs f es)
+highest [] o e = subst (λ x. MatchOption x (◌≡◌ {A = List ℕ} [] []) (λ f. ActsAs f [])) (sym e) refl
+highest (e ∷ es) o h = subst (λ x. MatchOption x (e ∷ es ≡ []) (λ f. ActsAs f (e ∷ es))) (sym h) (heap e (e ∷ []) es (one-floor e))

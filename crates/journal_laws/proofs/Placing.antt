@@ -8,7 +8,7 @@ use Rattle.marks.specs.declared.mark.Cell.{Cell}
 use Rattle.marks.specs.declared.mark.Cell.TheVariants.{Blank, Torn, Held}
 use Rattle.marks.specs.Device.{cell_at}
 use Rattle.journal.specs.declared.source.Source.{Source}
-use Rattle.journal.specs.Journals.{IsSource, record_of, source_in, mark_in, comes_from, free_cell, is_free, any_free, first_free, start_after, chosen}
+use Rattle.journal.specs.Journals.{IsSource, record_of, source_in, comes_from, free_cell, is_free, any_free, first_free, start_after, chosen}
 use Rattle.journal.proofs.Sources.{is_source, unique, free-gives, change_keeps, never-torn, any_some}
 use Rattle.journal.proofs.Choosing.{first-here, first-later, first-none, first-first, first_second, within, none_free, chosen-inside, chosen-free, chosen-nowhere}
 use Rattle.journal_laws.specs.Places.{ComesBefore, FirstFree, Expendable, FreeCell, SourceLaw, FreeLaw}
@@ -110,9 +110,6 @@ free_decides cs r e = (
   λ f. e ∙ any_some cs (length cs) f.cell f.inside f.free,
 )
 
--- what was found is the source, and gives the mark
+-- what was found is the source
 pub found_source : (cs : List Cell) (p : Pair) (o : Option Source) → o ≡ source_in cs p → IsSource cs p (length cs) o
 found_source cs p o e = subst (λ x. IsSource cs p (length cs) x) (sym e) (is_source cs p (length cs))
-
-pub found-mark : (cs : List Cell) (p : Pair) (o : Option Source) → o ≡ source_in cs p → option_map (λ s. s.mark) o ≡ mark_in cs p
-found-mark cs p o e = ap (λ x. option_map (λ s. s.mark) x) e

@@ -2,15 +2,13 @@
 use Rattle.std.proofs.Common.{◌≡◌, ℕ, ◌+◌, ◌<◌, min, List, [], ◌∷◌, ◌++◌, length, get_or, take, drop, set, sym, refl, ap, ◌∙◌, subst, arith}
 use Rattle.std.proofs.lemmas.List.{take_more, take_more_set, drop-drop, drop-set-lt}
 use Rattle.marks.specs.declared.mark.Pair.{Pair}
-use Rattle.marks.specs.declared.mark.Mark.{Mark}
-use Rattle.marks.specs.declared.mark.Raised.{Raised}
 use Rattle.marks.specs.State.{State}
 use Rattle.journal_laws.specs.declared.call.Call.{Call}
 use Rattle.journal_laws.specs.declared.call.Call.TheVariants.{Raise, SwitchOn}
 use Rattle.journal_laws.specs.declared.call.Reply.{Reply}
 use Rattle.journal_laws.specs.declared.call.Reply.TheVariants.{Answered, On}
 use Rattle.journal_laws.specs.Runs.{Run, begun, raised, switched, NotLower, Spares}
-use Rattle.journal_laws.specs.Calls.{Spared, RaiseDone, SwitchDone, Carries, Tells, nothing, raise, switch, Ran}
+use Rattle.journal_laws.specs.Calls.{Spared, Carries, Tells, nothing, raise, switch, Ran}
 use Rattle.journal_laws.proofs.Marks.{law}
 
 spared-push : (q : Pair) (cs : List Call) (c : Call) → Spared q (cs ++ (c ∷ [])) → Spared q cs × Spared q (c ∷ [])
@@ -19,12 +17,6 @@ spared-push q (Raise p m ∷ cs) c h = let k = spared-push q cs c h.1 in ((h.0, 
 spared-push q (SwitchOn n ∷ cs) c h = spared-push q cs c h
 
 module _ {S : Type 0} (state : S → State) (touches rests : S → S → Type 0) where
-  pub raises : (s t : S) (p : Pair) (m : Mark) (w : Raised) (c : Call) → c ≡ Raise p m → RaiseDone state touches rests s p m w t → Carries state touches rests s c (Answered w) t
-  raises s t p m w c e x = subst (λ (d : Call). Carries state touches rests s d (Answered w) t) (sym e) x
-
-  pub switches : (s t : S) (n : ℕ) (c : Call) → c ≡ SwitchOn n → SwitchDone state touches rests s n t → Carries state touches rests s c On t
-  switches s t n c e x = subst (λ (d : Call). Carries state touches rests s d On t) (sym e) x
-
   -- some run tells the calls and their replies
   pub record Told (s : S) (cs : List Call) (rs : List Reply) (t : S) : Type 0 where
     pub run : Run (state s) (state t)

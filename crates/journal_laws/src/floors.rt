@@ -6,25 +6,11 @@ ghost use Rattle.journal_laws.specs.Piles.{ActsAs, Alike};
 use journal::floor::Floor;
 use marks::store::Store;
 
-// The higher of two epochs.
-fn join(highest: Option<u64>, epoch: u64) -> u64
-    ensures { MatchOption highest (result ≡ epoch) (λ h. result ≡ max h epoch) }
-{
-    match highest {
-        None => epoch,
-        Some(h) => h.max(epoch),
-    }
-}
-
 // The epoch of the one floor that a pile of floors acts as; none for no floor at all.
 pub fn pile_epoch(epochs: &[u64]) -> Option<u64>
     ensures { MatchOption result (epochs.now ≡ []) (λ f. ActsAs f epochs.now) }
 {
-    let mut highest: Option<u64> = None;
-    for epoch in epochs {
-        highest = Some(join(highest, *epoch));
-    }
-    highest
+    epochs.iter().copied().max()
 }
 
 // A floor on a floor acts as the higher one.

@@ -29,8 +29,9 @@ pub fn run<S: Store>(store: &mut S, calls: &[Call], replies: &mut [Reply]) -> us
     ensures spared { (q : Pair) → Spared q (take result calls.now) → (S.state store.new).mark q ≡ (S.state store.old).mark q }
 {
     let n = calls.len().min(replies.len());
-    for i in 0..n {
-        replies[i] = carry_out(store, calls[i]);
+    // Kept: the replies are written by place. After a `zip` with `iter_mut` a proof knows nothing of what was written.
+    for (i, call) in calls[..n].iter().enumerate() {
+        replies[i] = carry_out(store, *call);
     }
     n
 }

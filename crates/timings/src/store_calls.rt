@@ -8,7 +8,7 @@ use crate::answer::FoundMark;
 use journal::journal::Journal;
 use journal_laws::images::raise_in;
 use marks::image::ImageCells;
-use marks::mark::{CutLeaves, Mark, Pair, Position, Raised};
+use marks::mark::{CutLeaves, Mark, Pair, Position};
 use marks::power::Power;
 use marks::store::Store;
 
@@ -34,13 +34,7 @@ pub extern "C" fn timing_raise(
         position: Position { epoch, counter },
         hash: *hash,
     };
-    match raise_in(image, floor, charge, CutLeaves::Torn, pair, new) {
-        Raised::Off => 0,
-        Raised::Low => 1,
-        Raised::Full => 2,
-        Raised::Cut => 3,
-        Raised::Done => 4,
-    }
+    raise_in(image, floor, charge, CutLeaves::Torn, pair, new) as u8
 }
 
 // Hands the image back.
@@ -76,18 +70,9 @@ pub extern "C" fn timing_mark(
         kid: *kid,
     };
     let (found, _back) = mark_on(image, pair);
-    let Some(mark) = found else {
-        return FoundMark {
-            found: 0,
-            epoch: 0,
-            counter: 0,
-        };
-    };
-    let kept = mark.hash;
-    *hash = kept;
-    FoundMark {
-        found: 1,
-        epoch: mark.position.epoch,
-        counter: mark.position.counter,
+    if let Some(mark) = found {
+        let kept = mark.hash;
+        *hash = kept;
     }
+    FoundMark::from(found)
 }

@@ -1,11 +1,9 @@
-use Rattle.std.proofs.Common.{◌≡◌, length, refl, arith}
-use Rattle.journal_laws.proofs.Piling.{joined, ended}
+use Rattle.std.proofs.Common.{sym, ◌∙◌}
+use Rattle.std.proofs.lemmas.Iterator.{YieldsList-from_slice}
+use Rattle.std.proofs.lemmas.Iterator.Consumers.{YieldsList-from_copied, max_from_yields_List}
+use Rattle.std.proofs.lemmas.Iterator.Adapters.{option_map_id}
+use Rattle.journal_laws.proofs.Piling.{highest}
 use Rattle.journal_laws.proofs.floors.pile_epoch.Goals as goal
 
-pub loop-epoch-preserved : goal.loop-epoch-preserved
-loop-epoch-preserved c = joined c.args.epochs.now c.loop-epoch.epoch-index _ c.loop-epoch-test.true refl c.loop-epoch.highest _ c.loop-epoch.invariant c.join.ensures
-
 pub returns : goal.returns
-returns c =
-    let e : c.loop-epoch.epoch-index ≡ length c.args.epochs.now = omega arith in
-    ended c.args.epochs.now _ c.loop-epoch.highest e c.loop-epoch.invariant
+returns c = highest _ _ (sym (option_map_id _) ∙ max_from_yields_List _ _ c.max.ensures.ran (YieldsList-from_copied (YieldsList-from_slice c.args.epochs.now cc)))

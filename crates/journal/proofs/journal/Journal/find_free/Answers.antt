@@ -1,12 +1,11 @@
-use Rattle.std.proofs.Common.{sym, ◌∙◌}
-use Rattle.journal.proofs.Choosing.{found, passed, ended}
+use Rattle.std.proofs.Common.{◌≡◌, true, false, rules}
+use Rattle.std.proofs.lemmas.Iterator.{first_from_Range}
+use Rattle.journal.specs.Journals.{is_free}
+use Rattle.journal.proofs.Choosing.{Found, found}
 use Rattle.journal.proofs.journal.Journal.find_free.Goals as goal
 
-pub returns-then-is_free : goal.returns-then-is_free
-returns-then-is_free g c = sym (c.loop-i.invariant ∙ found _ _ _ c.loop-i-test.true (sym c.if-is_free.ensures))
-
-pub loop-i-preserved : goal.loop-i-preserved
-loop-i-preserved g c = passed _ _ _ _ c.loop-i-test.true (sym c.if-is_free.ensures) c.loop-i.invariant
-
 pub returns : goal.returns
-returns g c = sym (c.loop-i.invariant ∙ ended _ _ _ c.loop-i-test.false)
+returns g c =
+    let cs = (g.C.Cells.device c.args.self.now.cells).cells in
+    let f : Found cs c.args.a c.args.e c.find.result = first_from_Range _ _ _ _ (λ k. is_free cs k ≡ true) (λ k. is_free cs k ≡ false) c.find.ensures.ran (λ k q t. search (rules, t)) (λ k q t. search (rules, t)) in
+    found cs _ _ _ f

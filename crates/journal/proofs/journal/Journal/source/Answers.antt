@@ -1,4 +1,4 @@
-use Rattle.std.proofs.Common.{◌≡◌, length, refl, ap, ◌∙◌, arith}
+use Rattle.std.proofs.Common.{refl, ◌∙◌}
 use Rattle.journal.specs.Journals.{source_to}
 use Rattle.journal.proofs.Sources.{source_taken, source_left, source_kept}
 use Rattle.journal.proofs.journal.Journal.source.Goals as goal
@@ -7,12 +7,6 @@ use Rattle.journal.proofs.journal.Journal.source.Goals.{in-Held+then-takes_over,
 pub loop-i-init : goal.loop-i-init
 unfolding source_to
 loop-i-init g c = refl
-
-pub returns : goal.returns
-returns g c =
-    let cs = (g.C.Cells.device c.args.self.now.cells).cells in
-    let e : c.loop-i.i ≡ length cs = omega (arith, c.count-i-end.ensures) in
-    c.loop-i.invariant ∙ ap (λ n. source_to cs c.args.pair n) e
 
 pub loop-i-preserved : goal.loop-i-preserved
 loop-i-preserved g c = elim c.match-read.branch [
