@@ -78,13 +78,12 @@ fn step(v: Words, k: u32, w: u32) -> Words
 }
 
 // All 64 rounds.
-pub(crate) fn steps(first: Words, w: &[u32]) -> Words
-    requires { length w.now ≡ 64 }
+pub(crate) fn steps(first: Words, w: &[u32; 64]) -> Words
     ensures { result ≡ rounds 64 w.now first }
 {
     let mut v = first;
-    for t in 0..64 {
-        v = step(v, K[t], w[t]);
+    for (k, word) in K.iter().zip(w) {
+        v = step(v, *k, *word);
     }
     v
 }

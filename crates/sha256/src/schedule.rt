@@ -10,14 +10,11 @@ pub(crate) fn schedule(block: &[u8]) -> [u32; 64]
     ensures { result ≡ scheduled block.now 64 }
 {
     let mut w = [0u32; 64];
-    'first: for t in 0..16 {
-        w[t] = u32::from_be_bytes([
-            block[4 * t],
-            block[4 * t + 1],
-            block[4 * t + 2],
-            block[4 * t + 3],
-        ]);
+    let (words, _) = block.as_chunks();
+    'first: for (t, octets) in words.iter().enumerate() {
+        w[t] = u32::from_be_bytes(*octets);
     }
+    // Kept: each word is made of words before it in the same array, so it is named by its place.
     'rest: for t in 16..64 {
         w[t] = w[t - 16]
             .wrapping_add(small_sigma_0(w[t - 15]))

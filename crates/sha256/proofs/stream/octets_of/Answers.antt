@@ -1,23 +1,11 @@
-use Rattle.std.proofs.Common.{◌≡◌, sym, refl, ◌∙◌, arith}
-use borrow.Rule.Slice.PartMut.{same_len_mid}
-use Rattle.std.proofs.lemmas.List.{take_all}
-use Rattle.sha256.specs.Sha256.{octets_of32, octets_of_words, digest_octets}
-use Rattle.sha256.proofs.Writing.{word_written}
+use Rattle.std.proofs.Common.{◌∙◌, [], ◌∷◌}
+use Rattle.sha256.specs.Sha256.{digest_octets, octets_of32}
+use Rattle.sha256.proofs.Writing.{words_octets}
 use Rattle.sha256.proofs.stream.octets_of.Goals as goal
 
-pub loop-t-init : goal.loop-t-init
-unfolding octets_of_words
-loop-t-init c = (refl, refl)
-
-pub loop-t-preserved : goal.loop-t-preserved
-unfolding octets_of32
-loop-t-preserved c = (
-  same_len_mid _ _ _ _ c.copy_from_slice.auto.self ∙ c.loop-t.invariant.0,
-  word_written _ c.loop-t.octets c.to_be_bytes.result c.copy_from_slice.new.self c.loop-t.t _ c.loop-t-test.true (omega (arith, c.loop-t.invariant.0)) c.copy_from_slice.ensures.after c.to_be_bytes.ensures c.loop-t.invariant.1,
-)
-
 pub returns : goal.returns
-unfolding digest_octets
+unfolding digest_octets octets_of32
 returns c =
-    let e : c.loop-t.t ≡ 8 = omega arith in
-    sym (take_all 32 c.loop-t.octets (omega (arith, c.loop-t.invariant.0))) ∙ rw e at c.loop-t.invariant.1
+    c.copy_from_slice.ensures.after ∙ c.as_flattened.ensures.value
+    ∙ words_octets (c.args.v.a ∷ c.args.v.b ∷ c.args.v.c ∷ c.args.v.d ∷ c.args.v.e ∷ c.args.v.f ∷ c.args.v.g ∷ c.args.v.h ∷ []) c.map.result c.map.ensures.items.long
+    (λ i l. let call = c.map.ensures.items.at i 0 [] l in call.2.met)

@@ -1,16 +1,14 @@
-use Rattle.std.proofs.Common.{◌≡◌, ℕ, ◌+◌, ◌-◌, List, length, refl, arith}
-use borrow.Rule.Slice.PartMut.{put_mid}
-use Rattle.sha256.proofs.Absorbing.{put-part, put_whole, holds-part, holds-whole}
+use Rattle.std.proofs.Common.{◌≡◌, ◌++◌, ◌∙◌, length, refl, rules}
+use Rattle.sha256.proofs.Absorbing.{holds-part, holds-whole}
 use Rattle.sha256.proofs.state.Sha256.take_part.Goals as goal
 
-pub returns-then-end-eq-BLOCK : goal.returns-then-end-eq-BLOCK
-returns-then-end-eq-BLOCK c =
-    let s = c.args.self.now in
-    let octets = c.args.octets.now in
-    let block : List ℕ = put_mid s.filled ((s.filled + length octets) - s.filled) s.part c.copy_from_slice.new.self in
-    let long : length block ≡ 64 = omega arith in
-    let is = put_whole s.part octets c.copy_from_slice.new.self s.filled _ c.copy_from_slice.ensures.after (omega arith) long (omega arith) in
-    λ seen h. holds-whole s _ seen octets block long (omega arith) is refl refl c.compress-self.ensures h
+pub returns-then-is_full : goal.returns-then-is_full
+returns-then-is_full c = λ seen h.
+    let put : c.try_extend_from_slice.new.self.items ≡ c.args.self.now.part.items ++ c.args.octets.now = search rules in
+    let long : length c.as_slice.result.now ≡ 64 = search rules in
+    holds-whole c.args.self.now _ seen c.args.octets.now c.as_slice.result.now long (c.as_slice.ensures.value ∙ put) c.clear.ensures refl c.compress-self.ensures h
 
-pub returns-else-end-eq-BLOCK : goal.returns-else-end-eq-BLOCK
-returns-else-end-eq-BLOCK c = λ seen h. holds-part c.args.self.now _ seen c.args.octets.now refl (put-part c.args.self.now.part _ _ c.args.self.now.filled _ c.copy_from_slice.ensures.after (omega arith)) refl refl h
+pub returns-else-is_full : goal.returns-else-is_full
+returns-else-is_full c = λ seen h.
+    let put : c.try_extend_from_slice.new.self.items ≡ c.args.self.now.part.items ++ c.args.octets.now = search rules in
+    holds-part c.args.self.now _ seen c.args.octets.now put refl refl h

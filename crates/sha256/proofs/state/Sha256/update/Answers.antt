@@ -1,15 +1,12 @@
-use Rattle.std.proofs.Common.{take, arith}
-use Rattle.std.proofs.lemmas.List.{take_all}
-use Rattle.sha256.proofs.Absorbing.{carry, stretch_more}
+use Rattle.std.proofs.Common.{arith}
+use Rattle.sha256.proofs.Absorbing.{taken_more, cut_at}
 use Rattle.sha256.proofs.state.Sha256.update.Goals as goal
 
-pub loop-i-preserved-then-left-ge-BLOCK : goal.loop-i-preserved-then-left-ge-BLOCK
-loop-i-preserved-then-left-ge-BLOCK c =
-    (omega arith, λ seen h. carry _ seen (take c.loop-i.i c.args.octets.now) _ _ (stretch_more c.args.octets.now c.loop-i.i 64) (c.take_block.ensures _ (c.loop-i.invariant.1 seen h)))
+pub loop-rest-preserved-in-Some : goal.loop-rest-preserved-in-Some
+loop-rest-preserved-in-Some c =
+    let cut = c.in-Some.ensures.cases in
+    (omega (arith, cut.4, c.loop-rest.invariant.0), λ seen h. taken_more _ seen _ _ _ _ (cut_at 64 _ _ _ cut.1 cut.2) (c.loop-rest.invariant.1 seen h) c.take_block.ensures)
 
-pub loop-i-preserved : goal.loop-i-preserved
-loop-i-preserved c =
-    (omega arith, λ seen h. carry _ seen (take c.loop-i.i c.args.octets.now) _ _ (stretch_more c.args.octets.now c.loop-i.i c.min-n.result) (c.take_part.ensures _ (c.loop-i.invariant.1 seen h)))
-
-pub returns : goal.returns
-returns c = λ seen h. let e = take_all c.loop-i.i c.args.octets.now (omega arith) in rw e at (c.loop-i.invariant.1 seen h)
+pub loop-rest-preserved : goal.loop-rest-preserved
+loop-rest-preserved c =
+    (omega (arith, c.split_at.ensures.back_len, c.loop-rest.invariant.0), λ seen h. taken_more _ seen _ _ _ _ c.split_at.ensures.by_index.0 (c.loop-rest.invariant.1 seen h) c.take_part.ensures)
