@@ -1,3 +1,2 @@
 pub mod Pieces
-pub mod Walk
 pub mod Lengths

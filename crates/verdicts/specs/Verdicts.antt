@@ -1,8 +1,15 @@
 -- What a verdict sheet means. A row has 82 octets: kind, kid (16), alg, SHA-256 of the transcript (32), SHA-256 of the signature (32).
-use Rattle.std.specs.Prelude.{ℕ, Bool, ◌&&◌, List, ◌==◌, slice_index}
+use Rattle.std.specs.Prelude.{ℕ, Bool, cond, ◌&&◌, List, ◌==◌, Some, None, Option, slice_index}
+use Rattle.std.specs.List.{list_any}
 use Rattle.std.specs.Str.{bytes_eq}
 use Rattle.sha256.specs.Sha256.{sha256_of}
-use Rattle.verdicts.specs.Rows.{rows_of, some_row, field}
+use Rattle.verdicts.specs.declared.verdict_sheet.Kind.{Kind}
+use Rattle.verdicts.specs.declared.verdict_sheet.Kind.TheVariants.{Pin, Yes}
+use Rattle.verdicts.specs.Rows.{rows_of, field}
+
+-- the kind that a row's first octet names, if it names one
+abbrev pub kind_of : ℕ → Option Kind
+kind_of octet = cond (octet == 0x00) (Some Pin) (cond (octet == 0x01) (Some Yes) None)
 
 -- a pin row (kind 00) of this kid and alg; its last 64 octets mean nothing
 abbrev pub is_pin : List ℕ → ℕ → List ℕ → Bool
@@ -16,9 +23,9 @@ is_yes kid alg transcript_hash signature_hash row =
 
 -- a kid is known for an alg when it has a pin row
 abbrev pub is_pinned : List ℕ → List ℕ → ℕ → Bool
-is_pinned sheet kid alg = some_row (is_pin kid alg) (rows_of 82 sheet)
+is_pinned sheet kid alg = list_any (is_pin kid alg) (rows_of 82 sheet)
 
 -- a signature is good when its kid is known for the alg and a yes row has all four
 abbrev pub is_vouched : List ℕ → List ℕ → ℕ → List ℕ → List ℕ → Bool
 is_vouched sheet kid alg transcript signature =
-    is_pinned sheet kid alg && some_row (is_yes kid alg (sha256_of transcript) (sha256_of signature)) (rows_of 82 sheet)
+    is_pinned sheet kid alg && list_any (is_yes kid alg (sha256_of transcript) (sha256_of signature)) (rows_of 82 sheet)

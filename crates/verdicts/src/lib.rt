@@ -1,7 +1,6 @@
 // Who says that a signature is good: the interface, and two sheets of verdicts worked out by other software.
 #![tactic(auto)]
 
-mod rows;
 mod tag_sheet;
 mod transcript;
 mod verdict_sheet;

@@ -1,42 +1,56 @@
 // A sheet of tags found good.
-ghost use Rattle.std.specs.Prelude.{◌≡◌, length};
-ghost use Rattle.verdicts.specs.Rows.{rows_of, some_row};
+ghost use Rattle.std.specs.Prelude.{◌≡◌};
+ghost use Rattle.std.specs.List.{list_any};
+ghost use Rattle.verdicts.specs.Rows.{rows_of, field};
 ghost use Rattle.verdicts.specs.Tags.{is_of_kid, is_tag, is_listed, is_tagged};
 ghost use Rattle.verdicts.specs.Laws.{TagsHave16Octets};
 ghost use Rattle.verdicts.specs.Sound.{tagged_listed};
 
-use crate::rows::is_same;
 use crate::transcript::Transcript;
 use crate::verifier::Verifier;
 
-// The octets of a row, which begins with the kid.
+// The octets of a row.
 const ROW: usize = 64;
-
-// Where a row has the hash of the transcript.
-const TRANSCRIPT_AT: usize = 16;
-
-// Where a row has the tag.
-const TAG_AT: usize = 48;
 
 // The one alg that has tags.
 const TAG_ALG: u8 = 3;
 
+// A row, by its fields.
+#[derive(Clone, Copy)]
+struct Row<'a> {
+    kid: &'a [u8],
+    transcript: &'a [u8],
+    tag: &'a [u8],
+}
+
+impl<'a> Row<'a> {
+    // The fields where they lie in a row.
+    fn new(octets: &'a [u8; ROW]) -> Row<'a>
+        ensures kid { result.kid.now ≡ field 0 16 octets.now }
+        ensures transcript { result.transcript.now ≡ field 16 32 octets.now }
+        ensures tag { result.tag.now ≡ field 48 16 octets.now }
+    {
+        Row {
+            kid: &octets[..16],
+            transcript: &octets[16..48],
+            tag: &octets[48..],
+        }
+    }
+}
+
 // Whether a row makes the kid known.
-fn is_of_kid(row: &[u8], kid: &[u8]) -> bool
-    requires { length row.now ≡ 64 }
-    ensures { result ≡ is_of_kid kid.now row.now }
+fn is_of_kid(octets: &[u8; ROW], kid: &[u8]) -> bool
+    ensures { result ≡ is_of_kid kid.now octets.now }
 {
-    is_same(&row[..TRANSCRIPT_AT], kid)
+    Row::new(octets).kid == kid
 }
 
 // Whether a row calls the tag good.
-fn is_tag(row: &[u8], kid: &[u8], transcript: &[u8], tag: &[u8]) -> bool
-    requires { length row.now ≡ 64 }
-    ensures { result ≡ is_tag kid.now transcript.now tag.now row.now }
+fn is_tag(octets: &[u8; ROW], kid: &[u8], transcript: &[u8], tag: &[u8]) -> bool
+    ensures { result ≡ is_tag kid.now transcript.now tag.now octets.now }
 {
-    is_of_kid(row, kid)
-        && is_same(&row[TRANSCRIPT_AT..TAG_AT], transcript)
-        && is_same(&row[TAG_AT..ROW], tag)
+    let row = Row::new(octets);
+    row.kid == kid && row.transcript == transcript && row.tag == tag
 }
 
 /// Lent octets, read as rows of tags.
@@ -56,26 +70,24 @@ impl<'a> TagSheet<'a> {
 
     // Whether some row makes the kid known.
     fn has_kid(&self, kid: &[u8]) -> bool
-        ensures { result ≡ some_row (is_of_kid kid.now) (rows_of 64 self.now.octets.now) }
+        ensures { result ≡ list_any (is_of_kid kid.now) (rows_of 64 self.now.octets.now) }
     {
-        for row in self.octets.chunks_exact(ROW) {
-            if is_of_kid(row, kid) {
-                return true;
-            }
-        }
-        false
+        self.octets
+            .as_chunks()
+            .0
+            .iter()
+            .any(|row| is_of_kid(row, kid))
     }
 
     // Whether some row calls the tag good.
     fn has_tag(&self, kid: &[u8], transcript: &[u8], tag: &[u8]) -> bool
-        ensures { result ≡ some_row (is_tag kid.now transcript.now tag.now) (rows_of 64 self.now.octets.now) }
+        ensures { result ≡ list_any (is_tag kid.now transcript.now tag.now) (rows_of 64 self.now.octets.now) }
     {
-        for row in self.octets.chunks_exact(ROW) {
-            if is_tag(row, kid, transcript, tag) {
-                return true;
-            }
-        }
-        false
+        self.octets
+            .as_chunks()
+            .0
+            .iter()
+            .any(|row| is_tag(row, kid, transcript, tag))
     }
 }
 

@@ -1,53 +1,84 @@
 // A sheet of pinned keys and of signatures found good.
-ghost use Rattle.std.specs.Prelude.{◌≡◌, length};
-ghost use Rattle.verdicts.specs.Rows.{rows_of, some_row};
-ghost use Rattle.verdicts.specs.Verdicts.{is_pin, is_yes, is_pinned, is_vouched};
+ghost use Rattle.std.specs.Prelude.{◌≡◌, slice_index};
+ghost use Rattle.std.specs.List.{list_any};
+ghost use Rattle.verdicts.specs.Rows.{rows_of, field};
+ghost use Rattle.verdicts.specs.Verdicts.{kind_of, is_pin, is_yes, is_pinned, is_vouched};
 ghost use Rattle.verdicts.specs.Sound.{vouched_pinned};
 
-use crate::rows::is_same;
 use crate::transcript::Transcript;
 use crate::verifier::Verifier;
 use sha256::digest;
 
-// The octets of a row, which begins with its kind.
+// The octets of a row.
 const ROW: usize = 82;
 
-// Where a row has the kid.
-const KID_AT: usize = 1;
+// What a row says: that a kid is known for an alg, or that a signature is good.
+#[derive(Clone, Copy, PartialEq, Eq)]
+enum Kind {
+    Pin,
+    Yes,
+}
 
-// Where a row has the alg.
-const ALG_AT: usize = 17;
+impl Kind {
+    // The kind that an octet names, if it names one.
+    fn of(octet: u8) -> Option<Kind>
+        ensures { result ≡ kind_of octet }
+    {
+        match octet {
+            0x00 => Some(Kind::Pin),
+            0x01 => Some(Kind::Yes),
+            _ => None,
+        }
+    }
+}
 
-// Where a row has the hash of the transcript.
-const TRANSCRIPT_AT: usize = 18;
+// A row, by its fields.
+#[derive(Clone, Copy)]
+struct Row<'a> {
+    kind: Option<Kind>,
+    kid: &'a [u8],
+    alg: u8,
+    transcript: &'a [u8],
+    signature: &'a [u8],
+}
 
-// Where a row has the hash of the signature.
-const SIGNATURE_AT: usize = 50;
-
-// The kind of a row that makes a kid known for an alg.
-const PIN: u8 = 0x00;
-
-// The kind of a row that calls a signature good.
-const YES: u8 = 0x01;
+impl<'a> Row<'a> {
+    // The fields where they lie in a row.
+    fn new(octets: &'a [u8; ROW]) -> Row<'a>
+        ensures kind { result.kind ≡ kind_of (slice_index octets.now 0) }
+        ensures kid { result.kid.now ≡ field 1 16 octets.now }
+        ensures alg { result.alg ≡ slice_index octets.now 17 }
+        ensures transcript { result.transcript.now ≡ field 18 32 octets.now }
+        ensures signature { result.signature.now ≡ field 50 32 octets.now }
+    {
+        Row {
+            kind: Kind::of(octets[0]),
+            kid: &octets[1..17],
+            alg: octets[17],
+            transcript: &octets[18..50],
+            signature: &octets[50..],
+        }
+    }
+}
 
 // Whether a row makes the kid known for the alg.
-fn is_pin(row: &[u8], kid: &[u8], alg: u8) -> bool
-    requires { length row.now ≡ 82 }
-    ensures { result ≡ is_pin kid.now alg row.now }
+fn is_pin(octets: &[u8; ROW], kid: &[u8], alg: u8) -> bool
+    ensures { result ≡ is_pin kid.now alg octets.now }
 {
-    row[0] == PIN && is_same(&row[KID_AT..ALG_AT], kid) && row[ALG_AT] == alg
+    let row = Row::new(octets);
+    row.kind == Some(Kind::Pin) && row.kid == kid && row.alg == alg
 }
 
 // Whether a row calls the signature good.
-fn is_yes(row: &[u8], kid: &[u8], alg: u8, transcript: &[u8], signature: &[u8]) -> bool
-    requires { length row.now ≡ 82 }
-    ensures { result ≡ is_yes kid.now alg transcript.now signature.now row.now }
+fn is_yes(octets: &[u8; ROW], kid: &[u8], alg: u8, transcript: &[u8], signature: &[u8]) -> bool
+    ensures { result ≡ is_yes kid.now alg transcript.now signature.now octets.now }
 {
-    row[0] == YES
-        && is_same(&row[KID_AT..ALG_AT], kid)
-        && row[ALG_AT] == alg
-        && is_same(&row[TRANSCRIPT_AT..SIGNATURE_AT], transcript)
-        && is_same(&row[SIGNATURE_AT..ROW], signature)
+    let row = Row::new(octets);
+    row.kind == Some(Kind::Yes)
+        && row.kid == kid
+        && row.alg == alg
+        && row.transcript == transcript
+        && row.signature == signature
 }
 
 /// Lent octets, read as rows of pins and verdicts.
@@ -64,28 +95,15 @@ impl<'a> VerdictSheet<'a> {
         VerdictSheet { octets }
     }
 
-    // Whether some row makes the kid known for the alg.
-    fn has_pin(&self, kid: &[u8], alg: u8) -> bool
-        ensures { result ≡ is_pinned self.now.octets.now kid.now alg }
-    {
-        for row in self.octets.chunks_exact(ROW) {
-            if is_pin(row, kid, alg) {
-                return true;
-            }
-        }
-        false
-    }
-
     // Whether some row calls the signature good.
     fn has_yes(&self, kid: &[u8], alg: u8, transcript: &[u8], signature: &[u8]) -> bool
-        ensures { result ≡ some_row (is_yes kid.now alg transcript.now signature.now) (rows_of 82 self.now.octets.now) }
+        ensures { result ≡ list_any (is_yes kid.now alg transcript.now signature.now) (rows_of 82 self.now.octets.now) }
     {
-        for row in self.octets.chunks_exact(ROW) {
-            if is_yes(row, kid, alg, transcript, signature) {
-                return true;
-            }
-        }
-        false
+        self.octets
+            .as_chunks()
+            .0
+            .iter()
+            .any(|row| is_yes(row, kid, alg, transcript, signature))
     }
 }
 
@@ -97,7 +115,11 @@ impl<'a> Verifier for VerdictSheet<'a> {
     ghost sound = { λ sheet kid alg transcript signature. vouched_pinned sheet.octets.now kid alg transcript signature };
 
     fn knows(&self, kid: &[u8; 16], alg: u8) -> bool {
-        self.has_pin(kid, alg)
+        self.octets
+            .as_chunks()
+            .0
+            .iter()
+            .any(|row| is_pin(row, kid, alg))
     }
 
     fn is_good(
@@ -107,6 +129,6 @@ impl<'a> Verifier for VerdictSheet<'a> {
         transcript: &Transcript<'_>,
         signature: &[u8],
     ) -> bool {
-        self.has_pin(kid, alg) && self.has_yes(kid, alg, &transcript.digest(), &digest(signature))
+        self.knows(kid, alg) && self.has_yes(kid, alg, &transcript.digest(), &digest(signature))
     }
 }
