@@ -1,10 +1,10 @@
 // The arguments of a command, each by its key, in a map at a place. `None` where one is not as asked.
-ghost use Rattle.std.specs.Prelude.{◌≡◌, ◌≤◌, false, IfSome, unsigned_abs};
+ghost use Rattle.std.specs.Prelude.{◌≡◌, ℕ, ◌≤◌, false, Option, IfSome, MatchOption, unsigned_abs};
 ghost use Rattle.std.specs.Range.{range_inclusive_start, range_inclusive_end, range_inclusive_exhausted};
 ghost use Rattle.items.specs.Lookup.{lookup_of};
 ghost use Rattle.items.specs.Fields.{map_head_at};
 ghost use Rattle.commands.specs.Arguments.{required, number_in, between_in, signed_in, optional_in, track_in, text_in};
-ghost use Rattle.commands.specs.Octets.{sized, source_of};
+ghost use Rattle.commands.specs.Octets.{field, sized, source_of};
 
 use crate::types::Track;
 use items::types::{Fault, Span};
@@ -34,12 +34,20 @@ impl<'a> Arguments<'a> {
         self.value(key).ok()?
     }
 
+    // The value of a key that has to be there, as it is read at its place.
+    fn read<T, F: Fn(&[u8], usize) -> Option<(T, usize)>>(&self, key: u64, read: F) -> Option<T>
+        requires { F.IsAlwaysCallable read }
+        ensures { MatchOption (required (source_of self.now) key) (result ≡ None) (λ q. (came : Option (T × ℕ)) × F.post read self.now.octets q came × (result ≡ field came)) }
+    {
+        read(self.octets, self.required(key)?).map(|(value, _)| value)
+    }
+
     // An unsigned number.
     #[tactic(auto, unfolding(crate::specs::Arguments::number_in))]
     pub(crate) fn number(&self, key: u64) -> Option<u64>
         ensures { result ≡ number_in (source_of self.now) key }
     {
-        unsigned_at(self.octets, self.required(key)?).map(|(number, _)| number)
+        self.read(key, unsigned_at)
     }
 
     // An unsigned number in the range.
@@ -58,8 +66,7 @@ impl<'a> Arguments<'a> {
         ensures is { result ≡ signed_in (source_of self.now) key limit }
         ensures within { IfSome result (λ z. unsigned_abs z ≤ limit) }
     {
-        let at = self.required(key)?;
-        let (number, _) = integer_at(self.octets, at)?;
+        let number = self.read(key, integer_at)?;
         (number.unsigned_abs() <= limit).then_some(number)
     }
 
@@ -92,7 +99,7 @@ impl<'a> Arguments<'a> {
     pub(crate) fn text(&self, key: u64) -> Option<Span>
         ensures { result ≡ text_in (source_of self.now) key }
     {
-        text_at(self.octets, self.required(key)?).map(|(text, _)| text)
+        self.read(key, text_at)
     }
 
     // Whether the map has so many entries. Its keys are distinct, so with as many entries as were found it has no others.

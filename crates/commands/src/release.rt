@@ -68,6 +68,7 @@ impl Request {
 }
 
 // The request whose command it is: its own arguments, and a track as a number.
+// Kept: (d) `command` goes the other way and may refuse: each has a line for each type.
 impl From<Command> for Request {
     ghost from_gives = { λ command request. command_of request ≡ Some command };
 

@@ -1,7 +1,7 @@
 // Reading what a message asks for: the command type, and its arguments in the map at a place.
 ghost use Rattle.std.specs.Prelude.{◌≡◌, ok_or};
 ghost use Rattle.answers.specs.declared.refusal.Refusal.TheVariants.{BadArguments};
-ghost use Rattle.commands.specs.Orders.{listed_type, given, in_order, heartbeat_in, queue_in, suggest_in, remove_in, state_in, seek_in, rate_in, text_order_in};
+ghost use Rattle.commands.specs.Orders.{listed_type, given, in_order, heartbeat_in, queue_in, suggest_in, text_order_in};
 ghost use Rattle.commands.specs.Octets.{source_of, requested, request_at};
 ghost use Rattle.commands.specs.Kinds.{number_of};
 
@@ -82,40 +82,6 @@ fn suggest(arguments: &Arguments<'_>) -> Option<Request>
     })
 }
 
-// Item.
-fn remove(arguments: &Arguments<'_>) -> Option<Request>
-    ensures { result ≡ requested (remove_in (source_of arguments.now)) }
-{
-    let item = arguments.number(0)?;
-    arguments.has(1).then_some(Request::Remove { item })
-}
-
-// State.
-fn state(arguments: &Arguments<'_>) -> Option<Request>
-    ensures { result ≡ requested (state_in (source_of arguments.now)) }
-{
-    let state = arguments.between(0, 0..=STATES)?;
-    arguments.has(1).then_some(Request::State { state })
-}
-
-// Milliseconds.
-fn seek(arguments: &Arguments<'_>) -> Option<Request>
-    ensures { result ≡ requested (seek_in (source_of arguments.now)) }
-{
-    let milliseconds = arguments.signed(0, MILLISECONDS)?;
-    arguments.has(1).then_some(Request::Seek {
-        milliseconds: milliseconds as i32,
-    })
-}
-
-// Rate in percent.
-fn rate(arguments: &Arguments<'_>) -> Option<Request>
-    ensures { result ≡ requested (rate_in (source_of arguments.now)) }
-{
-    let percent = arguments.between(0, RATE_LOW..=RATE_HIGH)?;
-    arguments.has(1).then_some(Request::Rate { percent })
-}
-
 // Target, mode, text.
 fn text(arguments: &Arguments<'_>) -> Option<Request>
     ensures { result ≡ requested (text_order_in (source_of arguments.now)) }
@@ -137,10 +103,18 @@ fn ordered(kind: Kind, arguments: &Arguments<'_>) -> Option<Request>
         Kind::Heartbeat => heartbeat(arguments),
         Kind::Queue => queue(arguments),
         Kind::Suggest => suggest(arguments),
-        Kind::Remove => remove(arguments),
-        Kind::State => state(arguments),
-        Kind::Seek => seek(arguments),
-        Kind::Rate => rate(arguments),
+        Kind::Remove => arguments.has(1).then_some(Request::Remove {
+            item: arguments.number(0)?,
+        }),
+        Kind::State => arguments.has(1).then_some(Request::State {
+            state: arguments.between(0, 0..=STATES)?,
+        }),
+        Kind::Seek => arguments.has(1).then_some(Request::Seek {
+            milliseconds: arguments.signed(0, MILLISECONDS)? as i32,
+        }),
+        Kind::Rate => arguments.has(1).then_some(Request::Rate {
+            percent: arguments.between(0, RATE_LOW..=RATE_HIGH)?,
+        }),
         Kind::Next => arguments.has(0).then_some(Request::Next),
         Kind::Previous => arguments.has(0).then_some(Request::Previous),
         Kind::Text => text(arguments),

@@ -2,6 +2,7 @@
 use items::types::Span;
 
 /// A track: its number, or a byte string in the octets.
+// Kept: (a) the rules list both kinds of track, and neither is a failure.
 #[derive(Clone, Copy)]
 pub enum Track {
     Number(u64),
