@@ -1,5 +1,5 @@
 -- How text is read, character by character.
-use Rattle.std.proofs.Common.{◌≡◌, ℕ, zero, suc, ◌-◌, ◌<◌, ◌≤◌, Bool, true, false, ◌&&◌, ltb, List, [], ◌∷◌, length, get_or, take, drop, refl, ap, ◌∙◌, arith}
+use Rattle.std.proofs.Common.{IsAscii, ◌≡◌, ℕ, zero, suc, ◌-◌, ◌<◌, ◌≤◌, Bool, true, false, ◌&&◌, ltb, List, [], ◌∷◌, length, get_or, take, drop, refl, ap, ◌∙◌, arith}
 use Rattle.std.proofs.lemmas.List.{take_all, length-drop}
 use Rattle.std.proofs.lemmas.Bool.Decides.{nat_tests}
 use Rattle.text.specs.Table.{tails, low, high, within, text_after, is_text}
@@ -59,6 +59,14 @@ three_tails a [] e l = absurd (omega arith)
 three_tails a (b ∷ []) e l = absurd (omega arith)
 three_tails a (b ∷ d ∷ []) e l = absurd (omega arith)
 three_tails a (b ∷ d ∷ f ∷ bs) e l = lead 3 a (b ∷ d ∷ f ∷ bs) e (omega arith)
+
+pub ascii_text : (bs : List ℕ) → IsAscii bs → is_text bs ≡ true
+unfolding text_after
+ascii_text [] h = refl
+ascii_text (b ∷ bs) h =
+    let small : b < 128 = h 0 in
+    let none : tails b ≡ 0 = grind (arith, nat_tests) in
+    no_tails b bs none ∙ ascii_text bs (λ i. h (suc i))
 
 pub ended : (bs : List ℕ) → length bs ≡ 0 → is_text bs ≡ true
 unfolding text_after

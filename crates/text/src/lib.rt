@@ -60,6 +60,9 @@ pub fn is_text(octets: &[u8]) -> bool
     ensures is { result ≡ is_text octets.now }
     ensures utf8 { TextIsUtf8 }
 {
+    if octets.is_ascii() {
+        return true;
+    }
     let mut rest = octets;
     while let Some((first, behind)) = rest.split_first() {
         let Some(next) = behind_tails(*first, behind) else {

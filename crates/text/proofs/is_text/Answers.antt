@@ -1,7 +1,10 @@
 use Rattle.std.proofs.Common.{sym, ◌∙◌}
-use Rattle.text.proofs.Steps.{ended}
+use Rattle.text.proofs.Steps.{ascii_text, ended}
 use Rattle.text.proofs.Agrees.{text-is_utf8}
 use Rattle.text.proofs.is_text.Goals as goal
+
+pub returns-then-is_ascii : goal.returns-then-is_ascii
+returns-then-is_ascii c = record { is = sym (ascii_text _ c.if-is_ascii.ensures.cases); utf8 = text-is_utf8 }
 
 pub returns-in_default-behind_tails-clause-utf8 : goal.returns-in_default-behind_tails-clause-utf8
 returns-in_default-behind_tails-clause-utf8 c = text-is_utf8
