@@ -24,30 +24,35 @@ fn choose(x: u32, y: u32, z: u32) -> u32
 }
 
 // Each bit as most of the three have it.
+#[tactic(auto, unfolding(crate::specs::Sha256::Maj))]
 fn majority(x: u32, y: u32, z: u32) -> u32
     ensures { result ≡ Maj x y z }
 {
     (x & y) ^ (x & z) ^ (y & z)
 }
 
+#[tactic(auto, unfolding(crate::specs::Sha256::big_sigma0, crate::specs::Sha256::ROTR))]
 fn big_sigma_0(x: u32) -> u32
     ensures { result ≡ big_sigma0 x }
 {
     x.rotate_right(2) ^ x.rotate_right(13) ^ x.rotate_right(22)
 }
 
+#[tactic(auto, unfolding(crate::specs::Sha256::big_sigma1, crate::specs::Sha256::ROTR))]
 fn big_sigma_1(x: u32) -> u32
     ensures { result ≡ big_sigma1 x }
 {
     x.rotate_right(6) ^ x.rotate_right(11) ^ x.rotate_right(25)
 }
 
+#[tactic(auto, unfolding(crate::specs::Sha256::sigma0, crate::specs::Sha256::ROTR, crate::specs::Sha256::SHR))]
 pub(crate) fn small_sigma_0(x: u32) -> u32
     ensures { result ≡ sigma0 x }
 {
     x.rotate_right(7) ^ x.rotate_right(18) ^ (x >> 3)
 }
 
+#[tactic(auto, unfolding(crate::specs::Sha256::sigma1, crate::specs::Sha256::ROTR, crate::specs::Sha256::SHR))]
 pub(crate) fn small_sigma_1(x: u32) -> u32
     ensures { result ≡ sigma1 x }
 {

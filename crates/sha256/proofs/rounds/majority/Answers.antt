@@ -1,7 +1,0 @@
-use Rattle.std.proofs.Common.{refl}
-use Rattle.sha256.specs.Sha256.{Maj}
-use Rattle.sha256.proofs.rounds.majority.Goals as goal
-
-pub returns : goal.returns
-unfolding Maj
-returns c = refl
