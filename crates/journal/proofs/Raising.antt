@@ -11,7 +11,7 @@ use Rattle.marks.specs.declared.mark.Raised.TheVariants.{Cut, Done}
 use Rattle.marks.specs.Positions.{above}
 use Rattle.marks.specs.Device.{Device, cells_cut, WriteOutside, WriteCut, WriteDone}
 use Rattle.marks.specs.State.{RaiseFull, Begun, CutShort, Completed, Raises}
-use Rattle.journal.specs.Journals.{record_of, overtakes, source_in, mark_in, is_free, chosen, state_in, CutIn, WrittenIn}
+use Rattle.journal.specs.Journals.{record_of, overtakes, source_in, mark_in, is_free, chosen, state_in}
 use Rattle.journal.proofs.Sources.{change_keeps, change_raises, above-overtakes, held-pair, never-torn}
 use Rattle.journal.proofs.Choosing.{chosen-inside, chosen-free, chosen_none, chosen-room}
 

@@ -1,6 +1,6 @@
 -- Cells in octets.
-use Rattle.std.proofs.Common.{◌≡◌, ℕ, zero, suc, ◌+◌, ◌-◌, ◌*◌, ◌/◌, ◌%◌, ◌^◌, ◌<◌, ◌≤◌, cond, eqb, ◌≢◌, ◌⊎◌, List, ◌++◌, length, get_or, take, drop, set, Some, None, Option, sym, refl, ap, ◌∙◌, subst, inl, inr, ⊎_elim, div-add-mod', arith, MatchOption, Bor}
-use native.Mathlib.Nat.{div-div-eq-div-mul}
+use Rattle.std.proofs.Common.{◌≡◌, ℕ, zero, suc, ◌+◌, ◌-◌, ◌*◌, ◌/◌, ◌^◌, ◌<◌, ◌≤◌, cond, eqb, ◌≢◌, ◌⊎◌, List, ◌++◌, length, get_or, take, drop, set, Some, None, Option, sym, refl, ap, ◌∙◌, subst, inl, inr, ⊎_elim, arith, MatchOption, Bor}
+use Rattle.std.proofs.lemmas.Nat.{from_be_bytes-to_be_bytes_8}
 use borrow.Rule.Slice.PartMut.{put_mid}
 use Rattle.std.proofs.lemmas.Slice.{take-put_mid_below, drop-put_mid, between_is, between-put_mid}
 use Rattle.std.proofs.lemmas.List.FromFn.{length-map-range_with_len, get_or-map-range_with_len}
@@ -14,21 +14,7 @@ use Rattle.marks.specs.declared.mark.Record.{Record}
 use Rattle.marks.specs.Octets.{octets8, number8, encoded, record_in, cell_of, cells_in, put_cell, OneCell, Sized, StoredOctets, TornOctets}
 
 pub number8-octets : (n : ℕ) → n < 2 ^ 64 → number8 (octets8 n) ≡ n
-number8-octets n h =
-    let e0 : n / 256 * 256 + n % 256 ≡ n = div-add-mod' n 256 in
-    let e1 : n / 256 / 256 * 256 + n / 256 % 256 ≡ n / 256 = div-add-mod' (n / 256) 256 in
-    let e2 : n / 65536 / 256 * 256 + n / 65536 % 256 ≡ n / 65536 = div-add-mod' (n / 65536) 256 in
-    let e3 : n / 16777216 / 256 * 256 + n / 16777216 % 256 ≡ n / 16777216 = div-add-mod' (n / 16777216) 256 in
-    let e4 : n / 4294967296 / 256 * 256 + n / 4294967296 % 256 ≡ n / 4294967296 = div-add-mod' (n / 4294967296) 256 in
-    let e5 : n / 1099511627776 / 256 * 256 + n / 1099511627776 % 256 ≡ n / 1099511627776 = div-add-mod' (n / 1099511627776) 256 in
-    let e6 : n / 281474976710656 / 256 * 256 + n / 281474976710656 % 256 ≡ n / 281474976710656 = div-add-mod' (n / 281474976710656) 256 in
-    let d1 : n / 256 / 256 ≡ n / 65536 = div-div-eq-div-mul n 256 256 in
-    let d2 : n / 65536 / 256 ≡ n / 16777216 = div-div-eq-div-mul n 65536 256 in
-    let d3 : n / 16777216 / 256 ≡ n / 4294967296 = div-div-eq-div-mul n 16777216 256 in
-    let d4 : n / 4294967296 / 256 ≡ n / 1099511627776 = div-div-eq-div-mul n 4294967296 256 in
-    let d5 : n / 1099511627776 / 256 ≡ n / 281474976710656 = div-div-eq-div-mul n 1099511627776 256 in
-    let d6 : n / 281474976710656 / 256 ≡ n / 72057594037927936 = div-div-eq-div-mul n 281474976710656 256 in
-    omega arith
+number8-octets n h = from_be_bytes-to_be_bytes_8 n h
 
 pub cells-length : (m : List ℕ) → length (cells_in m) ≡ length m / 81
 cells-length m = length-map-range_with_len _ 0 (length m / 81)

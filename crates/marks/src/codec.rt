@@ -5,11 +5,23 @@ ghost use Rattle.marks.specs.Octets.{encoded, cell_of, Sized};
 
 use crate::mark::{Cell, Mark, Pair, Position, Record};
 
+// Where a record's parts stand, and where the next cell begins.
+const SID: usize = 1;
+
+const KID: usize = 17;
+
+const EPOCH: usize = 33;
+
+const COUNTER: usize = 41;
+
+const HASH: usize = 49;
+
 pub(crate) const CELL_SIZE: usize = 81;
 
-pub(crate) const BLANK: u8 = 0x00;
+// Kept: (d) a state is an octet of the format, matched once; any other octet reads as torn, so an enum would be `Cell` again.
+const BLANK: u8 = 0x00;
 
-pub(crate) const RECORD: u8 = 0x01;
+const RECORD: u8 = 0x01;
 
 pub(crate) const TORN: u8 = 0xFF;
 
@@ -20,11 +32,11 @@ pub(crate) fn encode(cell: &mut [u8], new: Record)
     ensures sized { Sized new }
 {
     cell[0] = RECORD;
-    cell[1..17].copy_from_slice(&new.pair.sid);
-    cell[17..33].copy_from_slice(&new.pair.kid);
-    cell[33..41].copy_from_slice(&new.mark.position.epoch.to_be_bytes());
-    cell[41..49].copy_from_slice(&new.mark.position.counter.to_be_bytes());
-    cell[49..81].copy_from_slice(&new.mark.hash);
+    cell[SID..KID].copy_from_slice(&new.pair.sid);
+    cell[KID..EPOCH].copy_from_slice(&new.pair.kid);
+    cell[EPOCH..COUNTER].copy_from_slice(&new.mark.position.epoch.to_be_bytes());
+    cell[COUNTER..HASH].copy_from_slice(&new.mark.position.counter.to_be_bytes());
+    cell[HASH..CELL_SIZE].copy_from_slice(&new.mark.hash);
 }
 
 // The N octets from a place on.
@@ -45,14 +57,14 @@ pub(crate) fn decode(cell: &[u8; CELL_SIZE]) -> Cell
         RECORD => Cell::Held(Record {
             mark: Mark {
                 position: Position {
-                    epoch: u64::from_be_bytes(part(cell, 33)),
-                    counter: u64::from_be_bytes(part(cell, 41)),
+                    epoch: u64::from_be_bytes(part(cell, EPOCH)),
+                    counter: u64::from_be_bytes(part(cell, COUNTER)),
                 },
-                hash: part(cell, 49),
+                hash: part(cell, HASH),
             },
             pair: Pair {
-                sid: part(cell, 1),
-                kid: part(cell, 17),
+                sid: part(cell, SID),
+                kid: part(cell, KID),
             },
         }),
         _ => Cell::Torn,

@@ -28,6 +28,8 @@ pub struct Record {
     pub pair: Pair,
 }
 
+// What a cell reads as.
+// Kept: (a) the rules list these cases by name, as they do those of the three enums below.
 #[derive(Clone, Copy, PartialEq, Eq)]
 pub enum Cell {
     Blank,

@@ -1,4 +1,4 @@
-use Rattle.std.proofs.Common.{◌≡◌, ◌+◌, ◌-◌, ◌*◌, ◌/◌, ◌<◌, ◌≤◌, length, set, sym, refl, ap, ◌∙◌, subst, arith, rules}
+use Rattle.std.proofs.Common.{◌≡◌, ◌+◌, ◌-◌, ◌*◌, ◌/◌, ◌<◌, length, set, sym, refl, ap, ◌∙◌, subst, arith, rules}
 use borrow.Rule.Slice.PartMut.{put_mid}
 use borrow.Rule.Slice.Mut.{set_vals}
 use Rattle.marks.specs.declared.image.ImageCells.{ImageCells}
@@ -20,8 +20,8 @@ slice_bounds-encode-end c = search (rules, cells-length c.args.self.now.image.no
 pub bounds-self-at : goal.bounds-self-at
 bounds-self-at c = omega (arith, cells-length c.args.self.now.image.now, c.count.ensures)
 
-pub returns-in-Old : goal.returns-in-Old
-returns-in-Old c =
+pub returns-in-Old-clause-memory : goal.returns-in-Old-clause-memory
+returns-in-Old-clause-memory c =
     let m = c.args.self.now.image.now in
     let i = c.args.i in
     let p = c.args.self.now.power in
@@ -29,16 +29,9 @@ returns-in-Old c =
     let w = c.spend-written.result.0 in
     let s = c.spend-written.ensures in
     let n : i < length m / 81 = omega (arith, cells-length m, c.count.ensures) in
-    let h : i < length (cells_in m) = omega (arith, c.count.ensures) in
-    let is = sym c.in-Old.is in
-    let image = ap (λ v. image_cut v i c.args.new m) is ∙ spent_image w p q _ i c.args.new m s in
+    let image = ap (λ v. image_cut v i c.args.new m) (sym c.in-Old.is) ∙ spent_image w p q _ i c.args.new m s in
     let t : ImageTouched c.args.self.now.image p c.args.self.now.image q = record { lender = refl; leaves = spent_leaves w p q _ s; octets = one_same m i n; written = record { answer = w; cell = i; new = c.args.new; after = image } } in
-    record {
-      writes = spent_writes w p q _ i c.args.new (cells_in m) _ s (search rules) h (ap (λ v. cells_cut v i c.args.new (cells_in m)) is);
-      memory = spent_moves {X = ImageCells} (λ s t. ImageTouched s.image s.power t.image t.power) c.args.self.now _ w p q _ s t;
-      octets = image;
-      each = spent_each w p q _ i c.args.new m _ s (subst (λ v. EachCut v i c.args.new m m) is refl);
-    }
+    spent_moves {X = ImageCells} (λ s t. ImageTouched s.image s.power t.image t.power) c.args.self.now _ w p q _ s t
 
 pub returns-in-New : goal.returns-in-New
 returns-in-New c =

@@ -1,5 +1,4 @@
-use Rattle.std.proofs.Common.{List, set, sym, ap, ◌∙◌}
-use Rattle.marks.specs.declared.mark.Cell.{Cell}
+use Rattle.std.proofs.Common.{set, sym, ap, ◌∙◌}
 use Rattle.marks.specs.declared.mark.Cell.TheVariants.{Held, Torn as TornCell}
 use Rattle.marks.specs.Device.{cells_cut}
 use Rattle.marks.specs.declared.table.TableCells.{TableCells}
