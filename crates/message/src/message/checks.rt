@@ -2,7 +2,7 @@
 ghost use Rattle.std.specs.Prelude.{◌≡◌};
 ghost use Rattle.verdicts.specs.Transcripts.{octets_of};
 ghost use Rattle.message.specs.Checks.{profile_matches, echo_matches, signature_length, signature_length_fits, signature_of, transcript_of};
-ghost use Rattle.message.specs.Sizes.{meta_fits, message_most, sizes_fit};
+ghost use Rattle.message.specs.Sizes.{meta_fits, message_most, before_signature, behind_signature, sizes_fit};
 
 use super::Message;
 use super::slices::{front, octet_at, rest, slice};
@@ -63,6 +63,21 @@ fn meta_fits(meta: Option<Meta>) -> bool
 }
 
 impl<'a> Message<'a> {
+    // The octets before the signature's entry.
+    fn before_signature(&self) -> &'a [u8]
+        ensures { result.now ≡ before_signature self.now.octets.now self.now.view }
+    {
+        front(self.octets, self.view.auth.entry)
+    }
+
+    // The octets behind the signature, and so behind its entry.
+    fn behind_signature(&self) -> &'a [u8]
+        ensures { result.now ≡ behind_signature self.now.octets.now self.now.view }
+    {
+        let signature = self.view.auth.signature;
+        rest(rest(self.octets, signature.start), signature.len)
+    }
+
     /// Is the profile 1?
     pub fn profile_matches(&self) -> bool
         ensures { result ≡ profile_matches self.now.view }
@@ -75,14 +90,11 @@ impl<'a> Message<'a> {
     pub fn sizes_fit(&self) -> bool
         ensures { result ≡ sizes_fit self.now.octets.now self.now.view }
     {
-        let signature = self.view.auth.signature;
-        let before = front(self.octets, self.view.auth.entry);
-        let behind = rest(rest(self.octets, signature.start), signature.len);
         self.octets.len() <= most_octets(self.view.auth.alg)
             && self.view.cmd.args.len <= ARGS_MOST
             && meta_fits(self.view.meta)
-            && strings_fit(before)
-            && strings_fit(behind)
+            && strings_fit(self.before_signature())
+            && strings_fit(self.behind_signature())
     }
 
     /// Is an echo absent, or equal to a context that is there?
@@ -116,13 +128,12 @@ impl<'a> Message<'a> {
     {
         let place = self.view.auth.place;
         let entry = self.view.auth.entry;
-        let signature = self.view.auth.signature;
         let inside = rest(rest(self.octets, place), 1);
         Transcript::new(
             front(self.octets, place),
             octet_at(self.octets, place).saturating_sub(1),
             front(inside, entry.saturating_sub(place).saturating_sub(1)),
-            rest(rest(self.octets, signature.start), signature.len),
+            self.behind_signature(),
         )
     }
 }
