@@ -16,8 +16,9 @@ module _ (os : List ℕ) (p : ℕ) where
   fit_one n h = let e : ltb p (length os) ≡ true = grind (arith, nat_tests) in rw e
 
   -- a string that is too long ends the way
-  pub fit_none : (m n : ℕ) → m ≡ suc n → p < length os → None ≡ next_head os p → strings_fit m os p ≡ false
-  fit_none m n more h is = rw (more, fit_one n h, sym is)
+  pub fit_none : (n : ℕ) → 1 ≤ n → p < length os → None ≡ next_head os p → strings_fit n os p ≡ false
+  fit_none zero some h is = absurd (omega arith)
+  fit_none (suc n) some h is = rw (fit_one n h, sym is)
 
   -- any other head is passed
   pub fit_some : (m n r : ℕ) → m ≡ suc n → p < length os → Some r ≡ next_head os p → strings_fit m os p ≡ strings_fit n os r

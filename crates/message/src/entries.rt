@@ -103,7 +103,7 @@ impl<'a> Entries<'a> {
 }
 
 // An identifier: a byte string of 16 octets.
-#[tactic(auto, unfolding(crate::specs::Entries::id_at, items::specs::Spans::shown))]
+#[tactic(auto, using(crate::proofs::Bounds::string_lies, crate::proofs::Bounds::lies_shown), unfolding(crate::specs::Entries::id_at, items::specs::Spans::shown))]
 pub(crate) fn id_at(octets: &[u8], place: usize) -> Option<([u8; ID], usize)>
     ensures { result ≡ id_at octets.now place }
 {

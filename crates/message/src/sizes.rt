@@ -62,6 +62,7 @@ fn next_head(octets: &[u8], place: usize) -> Option<usize>
 }
 
 // Whether no string of the octets is too long.
+#[tactic(auto, using(crate::proofs::Scans::fit_past, crate::proofs::Scans::fit_none, crate::proofs::Scans::fit_some, crate::proofs::Scans::fit_end))]
 pub(crate) fn strings_fit(octets: &[u8]) -> bool
     ensures { result ≡ strings_fit message_items octets.now 0 }
 {

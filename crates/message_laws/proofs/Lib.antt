@@ -9,3 +9,4 @@ pub mod Splices
 pub mod Checking
 pub mod Scanning
 pub mod Sizing
+pub mod Means

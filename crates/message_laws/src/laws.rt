@@ -13,6 +13,7 @@ use message::{Message, read};
 use verdicts::Transcript;
 
 /// Reads a message: it passes exactly when the octets are the encoding of fields that a message may have, and of no other, and shows them.
+#[tactic(auto, using(crate::proofs::Exactly::exactly))]
 pub fn read_message(octets: &[u8]) -> Result<Message<'_>, Refusal>
     ensures is { MatchResult result (λ m. message_of octets.now ≡ Ok m.view) (λ e. message_of octets.now ≡ Err e) }
     ensures sid { IfOk result (λ m. length m.view.mid.sid ≡ 16) }
@@ -24,6 +25,7 @@ pub fn read_message(octets: &[u8]) -> Result<Message<'_>, Refusal>
 }
 
 /// What is signed: the encoding of the fields without the signature.
+#[tactic(auto, using(crate::proofs::Means::transcript_means))]
 pub fn transcript<'a>(message: &Message<'a>) -> Transcript<'a>
     ensures is { octets_of result ≡ transcript_of message.now.octets.now message.now.view }
     ensures signed { OfFields message.now.octets.now message.now.view (λ f. octets_of result ≡ encoding (unsigned_tree f)) }
@@ -32,6 +34,7 @@ pub fn transcript<'a>(message: &Message<'a>) -> Transcript<'a>
 }
 
 /// The signature of the fields.
+#[tactic(auto, using(crate::proofs::Means::signature_means))]
 pub fn signature<'a>(message: &Message<'a>) -> &'a [u8]
     ensures is { result.now ≡ signature_of message.now.octets.now message.now.view }
     ensures fields { OfFields message.now.octets.now message.now.view (λ f. result.now ≡ f.signature) }
@@ -40,6 +43,7 @@ pub fn signature<'a>(message: &Message<'a>) -> &'a [u8]
 }
 
 /// Is an echo of the fields absent, or equal to a context that is there?
+#[tactic(auto, using(crate::proofs::Means::echo_means))]
 pub fn echo_matches(message: &Message<'_>) -> bool
     ensures is { result ≡ echo_matches message.now.octets.now message.now.view }
     ensures fields { OfFields message.now.octets.now message.now.view (λ f. result ≡ Echoes (echo_in f.meta) f.ctx) }
@@ -48,6 +52,7 @@ pub fn echo_matches(message: &Message<'_>) -> bool
 }
 
 /// Has the signature of the fields the length of its alg?
+#[tactic(auto, using(crate::proofs::Means::length_means))]
 pub fn signature_length_fits(message: &Message<'_>) -> bool
     ensures is { result ≡ signature_length_fits message.now.view }
     ensures fields { OfFields message.now.octets.now message.now.view (λ f. result ≡ SignatureFits f) }
@@ -56,6 +61,7 @@ pub fn signature_length_fits(message: &Message<'_>) -> bool
 }
 
 /// Are message, arguments, metadata and all strings of the fields but the signature small enough?
+#[tactic(auto, using(crate::proofs::Means::sizes_means))]
 pub fn sizes_fit(message: &Message<'_>) -> bool
     ensures is { result ≡ sizes_fit message.now.octets.now message.now.view }
     ensures fields { OfFields message.now.octets.now message.now.view (λ f. result ≡ Sizes f) }
