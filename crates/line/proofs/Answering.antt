@@ -9,13 +9,13 @@ use Rattle.answers.specs.declared.refusal.Refusal.{Refusal}
 use Rattle.answers.specs.declared.refusal.Refusal.TheVariants.{WorkTooShort, OutOfBounds, BurstTooLong, Framing, OctetAlign, FcsFail}
 use Rattle.line.specs.Bits.{bits_in, octets_in}
 use Rattle.line.specs.Flags.{first_flag, past_flags, behind_opening, within, body_start, closing, between}
-use Rattle.line.specs.declared.heard.Heard.{Heard}
 use Rattle.line.specs.declared.heard.Hearing.{Hearing}
 use Rattle.line.specs.declared.heard.Hearing.TheVariants.{Quiet, Refused, Frame}
 use Rattle.line.specs.Hearing.{admission, in_bounds, work_octets, hears, laid, line_questions, in_time, longest_body, checked, Fronts, Outcome, hears_line, refused_at, quiet_at, frame_at}
-use Rattle.line.specs.Scanning.{Begun, Closed, Right, Packed}
+use Rattle.line.specs.declared.scan.Flaw.{Flaw}
+use Rattle.line.specs.Scanning.{Begun, Closed, Right, Packed, Flawed, TooLong, Unclosed, Broken, Misaligned}
 use Rattle.line.specs.Stuffing.{unstuffed}
-use Rattle.line.proofs.Places.{flag-inside, one-more-flag}
+use Rattle.line.proofs.Places.{flag-inside, one-more-flag, length-heard}
 
 pub mapped_none : (f : ℕ → ℕ) (o : Option ℕ) → None ≡ option_map f o → o ≡ None
 mapped_none f None e = refl
@@ -97,29 +97,16 @@ module _ (bits : List Bool) (start p : ℕ) (o : Opened bits start p) where
   unfolding hears_line
   heard-empty h = no_body refused_at quiet_at bits start frame_at (o.starts ∙ within_none bits _ h)
 
-  pub heard-long : (from : ℕ) → (from ≡ past_flags o.fuel p (drop p bits)) × (past_flags o.fuel p (drop p bits) < length bits) × (in_time bits (past_flags o.fuel p (drop p bits)) ≡ false)
-      → hears_line bits start ≡ refused_at BurstTooLong (from + longest_body)
+  pub heard-flawed : (f : Flaw) → Flawed bits (past_flags o.fuel p (drop p bits)) f → hears_line bits start ≡ refused_at f.refusal f.next
   unfolding hears_line
-  heard-long from (e, h, t) = long-body refused_at quiet_at bits start frame_at _ (begins h) t ∙ ap (λ k. refused_at BurstTooLong (k + longest_body)) (sym e)
-
-  pub heard-unclosed : Begun bits (past_flags o.fuel p (drop p bits)) × (closing bits (past_flags o.fuel p (drop p bits)) ≡ None) → hears_line bits start ≡ refused_at Framing (length bits)
-  unfolding hears_line
-  heard-unclosed (g, c) = no_closing refused_at quiet_at bits start frame_at _ (begins g.some) g c
-
-  pub heard-broken : (c : ℕ) → Closed bits (past_flags o.fuel p (drop p bits)) c × (unstuffed (between (past_flags o.fuel p (drop p bits)) c bits) ≡ None) → hears_line bits start ≡ refused_at Framing c
-  unfolding hears_line
-  heard-broken c (g, u) = bad_stuffing refused_at quiet_at bits start frame_at _ c (begins g.some) g u
-
-  pub heard_misaligned : (c : ℕ) → ((kept : List Bool) × Right bits (past_flags o.fuel p (drop p bits)) c kept × (length kept % 8 ≡ 0 → ⊥)) → hears_line bits start ≡ refused_at OctetAlign c
-  unfolding hears_line
-  heard_misaligned c (kept, r, n) = not_octets refused_at quiet_at bits start frame_at _ c kept (begins r.closed.some) r n
+  heard-flawed f (TooLong e h t) = long-body refused_at quiet_at bits start frame_at _ (begins h) t ∙ ap (λ (x : Flaw). refused_at x.refusal x.next) (sym e)
+  heard-flawed f (Unclosed e g c) = no_closing refused_at quiet_at bits start frame_at _ (begins g.some) g c ∙ ap (λ (x : Flaw). refused_at x.refusal x.next) (sym e)
+  heard-flawed f (Broken c e g u) = bad_stuffing refused_at quiet_at bits start frame_at _ c (begins g.some) g u ∙ ap (λ (x : Flaw). refused_at x.refusal x.next) (sym e)
+  heard-flawed f (Misaligned c kept e r n) = not_octets refused_at quiet_at bits start frame_at _ c kept (begins r.closed.some) r n ∙ ap (λ (x : Flaw). refused_at x.refusal x.next) (sym e)
 
   module _ (n c : ℕ) (work : List ℕ) (f : (kept : List Bool) × Right bits (past_flags o.fuel p (drop p bits)) c kept × Packed kept n work) where
     kept-octets : octets_in f.0 ≡ take n work
     kept-octets = f.2.octets
-
-    many : length (octets_in f.0) ≡ n
-    many = ap length kept-octets ∙ length-take-le n work f.2.fits
 
     pub heard_bad : checked (take n work) ≡ false → hears_line bits start ≡ refused_at FcsFail c
     unfolding hears_line
@@ -132,24 +119,24 @@ module _ (bits : List Bool) (start p : ℕ) (o : Opened bits start p) where
         ∙ ap (λ os. record { answer = record { hearing = Frame (length os); next = c }; octets = os }) kept-octets
         ∙ ap (λ m. record { answer = record { hearing = Frame m; next = c }; octets = take n work }) (length-take-le n work f.2.fits)
 
-    pub fits : n ≤ length work
-    fits = f.2.fits
-
--- what is left in the work buffer
-pub no_front : (o : Outcome) (r : Heard) (work : List ℕ) → o ≡ record { answer = r; octets = [] } → Fronts o.octets work
-no_front o r work e = let x = ap (λ t. t.octets) e in subst (λ t. Fronts t work) (sym x) (record { fits = omega arith; same = refl })
-
-pub frame-front : (o : Outcome) (r : Heard) (n : ℕ) (work : List ℕ) → o ≡ record { answer = r; octets = take n work } → n ≤ length work → Fronts o.octets work
-frame-front o r n work e h =
-    let x = ap (λ t. t.octets) e in
-    let l = length-take-le n work h in
-    subst (λ t. Fronts t work) (sym x) (record { fits = omega arith; same = ap (λ m. take m work) l })
-
 -- from what was answered of the first flag
-pub opened-at : (bits : List Bool) (start p : ℕ) → Some p ≡ option_map (λ k. k + 8) (first_flag start (drop start bits)) → Opened bits start p
-opened-at bits start p e =
-    let m = mapped_some (λ k. k + 8) (first_flag start (drop start bits)) p e in
-    subst (Opened bits start) (sym m.2) (opened bits start m.0 m.1)
+pub record OpenedIn (burst : List ℕ) (count start p : ℕ) : Type 0 where
+  pub at : Opened (bits_in burst count) start p
+  pub enough : count ≤ p + 8 * at.fuel
+  pub fits : p ≤ count
+
+pub opened-in : (burst : List ℕ) (count start p : ℕ) → Some p ≡ option_map (λ k. k + 8) (first_flag start (drop start (bits_in burst count))) → OpenedIn burst count start p
+opened-in burst count start p e =
+    let m = mapped_some (λ k. k + 8) (first_flag start (drop start (bits_in burst count))) p e in
+    let o = subst (Opened (bits_in burst count) start) (sym m.2) (opened (bits_in burst count) start m.0 m.1) in
+    let len = length-heard burst 0 count in
+    record { at = o; enough = let h = o.enough in omega arith; fits = let h = o.fits in omega arith }
+
+-- and where there is none
+pub not-heard : (burst : List ℕ) (count start : ℕ) → None ≡ option_map (λ k. k + 8) (first_flag start (drop start (bits_in burst count))) → hears_line (bits_in burst count) start ≡ quiet_at count
+unfolding hears_line
+not-heard burst count start e =
+    no_body refused_at quiet_at (bits_in burst count) start frame_at (not_opened (bits_in burst count) start (mapped_none (λ k. k + 8) _ e)) ∙ ap quiet_at (length-heard burst 0 count)
 
 -- the questions about the buffers
 err_ok : (x : Refusal) (y : Unit {0}) → Err x ≡ Ok y → ⊥
@@ -187,9 +174,6 @@ admitted burst count start work e =
     record { within = leb-true _ _ q.1; order = leb-true _ _ q.0; room = leb-true _ _ p.0; line = p.2 }
 
 -- the work buffer, cleared behind the front
-pub laid_none : (octets : List ℕ) (n : ℕ) → octets ≡ [] → replicate n 0 ≡ laid n octets
-laid_none octets n e = let z : n - 0 ≡ n = omega arith in rw (e, z)
-
 pub laid-front : (octets work zeros : List ℕ) (n : ℕ) → Fronts octets work → n ≡ length octets → zeros ≡ replicate (length (drop n work)) 0
     → put_mid n (length work - n) work zeros ≡ laid (length work) octets
 laid-front octets work zeros n f e z =
@@ -240,9 +224,6 @@ module _ (bits : List Bool) (start : ℕ) where
   pub agrees : Agrees (hears_line bits start).answer.hearing (hears_line bits start).octets
   unfolding hears_line
   agrees = of_found Agreeing (body_start bits start) (quiet_at (length bits)) body_rows refl body-agrees
-
-pub agrees-frame : (h : Hearing) (n : ℕ) (octets : List ℕ) → h ≡ Frame n → Agrees h octets → n ≡ length octets
-agrees-frame h n octets e a = let x = subst (λ g. Agrees g octets) e a in x
 
 pub agrees_else : (h : Hearing) (octets : List ℕ) → ((n : ℕ) → h ≡ Frame n → ⊥) → Agrees h octets → octets ≡ []
 agrees_else Quiet octets f a = a

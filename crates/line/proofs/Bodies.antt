@@ -1,5 +1,5 @@
 -- The way through a body.
-use Rattle.std.proofs.Common.{◌≡◌, ℕ, zero, suc, ◌+◌, ◌-◌, ◌*◌, ◌%◌, ◌<◌, ◌≤◌, Bool, true, false, eqb, List, [], ◌∷◌, ◌++◌, length, take, drop, Some, None, Option, sym, refl, ap, ◌∙◌, subst, inl, inr, append-nil, arith}
+use Rattle.std.proofs.Common.{◌≡◌, ℕ, zero, suc, ◌+◌, ◌-◌, ◌*◌, ◌%◌, ◌<◌, ◌≤◌, Bool, true, false, eqb, List, [], ◌∷◌, ◌++◌, length, take, drop, Some, None, Option, sym, refl, ap, ◌∙◌, subst, inl, inr, append-nil, Ok, Err, Result, arith}
 use Rattle.std.specs.List.{AllByRecursion as All}
 use Rattle.std.proofs.lemmas.List.{length-append, length-take-le, take_at}
 use Rattle.std.proofs.ByRecursion.{All-take}
@@ -7,14 +7,15 @@ use Rattle.std.proofs.lemmas.Bool.{cond-true, cond-false, cases_Bool, eqb-true, 
 use Rattle.line.specs.declared.listener.Phase.TheVariants.{Inside}
 use Rattle.line.specs.declared.listener.Sign.TheVariants.{Flag}
 use Rattle.line.specs.declared.packer.Packer.{Packer}
+use Rattle.answers.specs.declared.refusal.Refusal.TheVariants.{BurstTooLong, Framing}
 use Rattle.line.specs.declared.scan.Body.{Body}
-use Rattle.line.specs.declared.scan.Body.TheVariants.{Empty, TooLong, Unclosed}
+use Rattle.line.specs.declared.scan.Flaw.{Flaw}
 use Rattle.line.specs.Bits.{low, bits_of, octets_in, decoded, heard, bits_in}
 use Rattle.line.specs.Flags.{flag, starts, first_flag, past_flags, closing, between}
 use Rattle.line.specs.Hearing.{closes_by}
 use Rattle.line.proofs.Views.{Missing, View, next, sign}
 use Rattle.line.specs.Packing.{held}
-use Rattle.line.specs.Scanning.{Closed, Right, Packed, Found, closed_as}
+use Rattle.line.specs.Scanning.{Closed, Right, Packed, flaw, TooLong, Unclosed, Broken, Misaligned, Found, closed_as}
 use Rattle.line.specs.Stuffing.{unstuff, unstuffed}
 use Rattle.line.proofs.Lengths.{length_bits_of, length-held}
 use Rattle.line.proofs.Listens.{behind, Sound, sound-next, goes_on, grows, short, Tells, packs, tells-on, tells_first, Closing, closes_at, flag-place, seven_seen, unstuffs}
@@ -135,7 +136,7 @@ module _ (os : List ℕ) (count first from : ℕ)
   start_is : starts flag (on_from os count from) ≡ false → (m : ℕ) → count ≤ first + 8 * m → past_flags m first (drop first (bits_in os count)) ≡ from
   start_is f m h = ap (past_flags m first) (heard-from os first count) ∙ (past m h).2 ∙ no_more-flags (past m h).0 from (on_from os count from) f
 
-  pub found_at : (work : List ℕ) (r : Body) → starts flag (on_from os count from) ≡ false → Found (bits_in os count) from work r
+  pub found_at : (work : List ℕ) (r : Result (Option Body) Flaw) → starts flag (on_from os count from) ≡ false → Found (bits_in os count) from work r
       → (m : ℕ) → count ≤ first + 8 * m → Found (bits_in os count) (past_flags m first (drop first (bits_in os count))) work r
   found_at work r f g m h = subst (λ b. Found (bits_in os count) b work r) (sym (start_is f m h)) g
 
@@ -154,15 +155,14 @@ unstuffed-is os count from c e =
 -- no closing flag
 unclosed : (os : List ℕ) (count first from k : ℕ)
     → ((m : ℕ) → count ≤ first + 8 * m → (n : ℕ) × (count ≤ from + 8 * n) × (past_flags m first (on_from os count first) ≡ past_flags n from (on_from os count from)))
-    → (work : List ℕ) (r : Body) → from < count → count ≤ from + 132008 → first_flag from (on_from os count from) ≡ None → r ≡ Unclosed
+    → (work : List ℕ) (r : Result (Option Body) Flaw) → from < count → count ≤ from + 132008 → first_flag from (on_from os count from) ≡ None → r ≡ Err (flaw Framing count)
     → (m : ℕ) → count ≤ first + 8 * m → Found (bits_in os count) (past_flags m first (drop first (bits_in os count))) work r
 unclosed os count first from k past work r some few none e =
     let len = length-heard os 0 count in
     found_at os count first from past work r (none_here from (on_from os count from) none)
-    (subst (λ x. Found (bits_in os count) from work x) (sym e) (
-      record { some = omega arith; timely = or_right _ _ (le-leb (length (bits_in os count)) (from + 132008) (omega arith)) },
-      closing-is os count from ∙ none,
-    ))
+    (subst (λ x. Found (bits_in os count) from work x) (sym e)
+    (Unclosed (ap (flaw Framing) (sym len)) (record { some = omega arith; timely = or_right _ _ (le-leb (length (bits_in os count)) (from + 132008) (omega arith)) })
+    (closing-is os count from ∙ none)))
 
 pub nothing_left : (os : List ℕ) (count k : ℕ) (l : View) → count ≤ k → length (behind l) ≤ 7 → first_flag (k - length (behind l)) (behind l ++ on_from os count k) ≡ None
 nothing_left os count k l h sh =
@@ -199,20 +199,25 @@ module _ (p : Packer) (work : List ℕ) (kept : List Bool) (holds : bits_held p 
   not_packed : (p.fill ≡ 6 → ⊥) → length kept % 8 ≡ 0 → ⊥
   not_packed n z = let c = long in let f = p.ok.0 in n (omega arith)
 
+-- a body that is found, as an answer that may have none
+abbrev pub found : Result Body Flaw → Result (Option Body) Flaw
+found (Ok body) = Ok (Some body)
+found (Err f) = Err f
+
 -- the body is closed
 closed-by : (os : List ℕ) (count from c : ℕ) (br : Bool) (p : Packer) (work : List ℕ) → Closed (bits_in os count) from c → first_flag from (on_from os count from) ≡ Some c
-    → Closing br (bits_held p work) (on_from os count from) → p.octets ≤ length work → All (λ o. o < 256) work → Found (bits_in os count) from work (closed_as br p.fill p.octets c)
-closed-by os count from c true p work cl e t fits a = (cl, unstuffed-is os count from c e ∙ t)
+    → Closing br (bits_held p work) (on_from os count from) → p.octets ≤ length work → All (λ o. o < 256) work → Found (bits_in os count) from work (found (closed_as br p.fill p.octets c))
+closed-by os count from c true p work cl e t fits a = Broken c refl cl (unstuffed-is os count from c e ∙ t)
 closed-by os count from c false p work cl e (kept, u, holds) fits a =
     let right : Right (bits_in os count) from c kept = record { closed = cl; unstuffs = unstuffed-is os count from c e ∙ u } in
     elim (cases_Bool (eqb p.fill 6)) [
-      | inl t ↦ subst (λ r. Found (bits_in os count) from work r) (sym (cond-true (eqb p.fill 6) _ _ t)) (kept, right, packed p work kept holds fits (eqb-true p.fill 6 t) a)
-      | inr f ↦ subst (λ r. Found (bits_in os count) from work r) (sym (cond-false (eqb p.fill 6) _ _ f)) (kept, right, not_packed p work kept holds fits (eqb-false p.fill 6 f))
+      | inl t ↦ subst (λ r. Found (bits_in os count) from work (found r)) (sym (cond-true (eqb p.fill 6) _ _ t)) (kept, right, packed p work kept holds fits (eqb-true p.fill 6 t) a)
+      | inr f ↦ subst (λ r. Found (bits_in os count) from work (found r)) (sym (cond-false (eqb p.fill 6) _ _ f)) (Misaligned c kept refl right (not_packed p work kept holds fits (eqb-false p.fill 6 f)))
     ]
 
 module _ (os : List ℕ) (count first from k : ℕ) (l : View) (p : Packer) (work : List ℕ) (b : Bool) (less : k < count) (is : b ≡ decoded os k) (s : Scans os count first from k l p work) where
   -- a flag behind the body closes it
-  pub closes : (r : Body) → sign l b ≡ Flag → from + 7 < k → 16500 ≤ length work → All (λ o. o < 256) work → r ≡ closed_as l.broken p.fill p.octets (k - 7)
+  pub closes : (r : Result (Option Body) Flaw) → sign l b ≡ Flag → from + 7 < k → 16500 ≤ length work → All (λ o. o < 256) work → r ≡ found (closed_as l.broken p.fill p.octets (k - 7))
       → (m : ℕ) → count ≤ first + 8 * m → Found (bits_in os count) (past_flags m first (drop first (bits_in os count))) work r
   closes r f far room a e =
       let here = flag_at os count first from k l p work b less is s f in
@@ -234,7 +239,7 @@ module _ (os : List ℕ) (count first from k : ℕ) (l : View) (p : Packer) (wor
   not_in_time (Some c) h = lt-leb c (from + 132000) (h c refl)
 
   -- no flag, and no more may come in time
-  pub too_long : (work' : List ℕ) (r : Body) → (sign l b ≡ Flag → ⊥) → 132007 ≤ k - from → k + 1 < count → r ≡ TooLong from
+  pub too_long : (work' : List ℕ) (r : Result (Option Body) Flaw) → (sign l b ≡ Flag → ⊥) → 132007 ≤ k - from → k + 1 < count → r ≡ Err (flaw BurstTooLong (from + 132000))
       → (m : ℕ) → count ≤ first + 8 * m → Found (bits_in os count) (past_flags m first (drop first (bits_in os count))) work' r
   too_long work' r f late rest e =
       let len = length-heard os 0 count in
@@ -244,14 +249,12 @@ module _ (os : List ℕ) (count first from k : ℕ) (l : View) (p : Packer) (wor
       λ c g. let n = not_before _ c _ (sym there ∙ g) in let t = s.recent in omega arith in
       let st : starts flag (on_from os count from) ≡ false = not_here from (on_from os count from) (λ c g. let q = far c g in omega arith) in
       found_at os count first from s.past work' r st
-      (subst (λ x. Found (bits_in os count) from work' x) (sym e) (
-        refl,
-        omega arith,
-        or_from _ _ (not_in_time (closing (bits_in os count) from) (λ c g. far c (sym (closing-is os count from) ∙ g))) (lt-leb (length (bits_in os count)) (from + 132008) (omega arith)),
-      ))
+      (subst (λ x. Found (bits_in os count) from work' x) (sym e)
+      (TooLong refl (omega arith)
+      (or_from _ _ (not_in_time (closing (bits_in os count) from) (λ c g. far c (sym (closing-is os count from) ∙ g))) (lt-leb (length (bits_in os count)) (from + 132008) (omega arith)))))
 
   -- no flag at the last bit
-  pub ends-unclosed : (work' : List ℕ) (r : Body) → (sign l b ≡ Flag → ⊥) → count ≤ k + 1 → r ≡ Unclosed
+  pub ends-unclosed : (work' : List ℕ) (r : Result (Option Body) Flaw) → (sign l b ≡ Flag → ⊥) → count ≤ k + 1 → r ≡ Err (flaw Framing count)
       → (m : ℕ) → count ≤ first + 8 * m → Found (bits_in os count) (past_flags m first (drop first (bits_in os count))) work' r
   ends-unclosed work' r f end e =
       let sh = short (next l b) (sound-next l.phase b l.ones l.zero l.broken s.sound) in
@@ -261,12 +264,12 @@ module _ (os : List ℕ) (count first from k : ℕ) (l : View) (p : Packer) (wor
 
 -- the bits are at an end
 module _ (os : List ℕ) (count first from k : ℕ) (l : View) (p : Packer) (work : List ℕ) (end : count ≤ k) (s : Scans os count first from k l p work) where
-  pub ends : (r : Body) → from < count → r ≡ Unclosed → (m : ℕ) → count ≤ first + 8 * m → Found (bits_in os count) (past_flags m first (drop first (bits_in os count))) work r
+  pub ends : (r : Result (Option Body) Flaw) → from < count → r ≡ Err (flaw Framing count) → (m : ℕ) → count ≤ first + 8 * m → Found (bits_in os count) (past_flags m first (drop first (bits_in os count))) work r
   ends r some e =
       let none = s.flags ∙ nothing_left os count k l end (short l s.sound) in
       unclosed os count first from k s.past work r some (let t = s.recent in omega arith) none e
 
-  pub ends-empty : (r : Body) → count ≤ from → r ≡ Empty → (m : ℕ) → count ≤ first + 8 * m → Found (bits_in os count) (past_flags m first (drop first (bits_in os count))) work r
+  pub ends-empty : (r : Result (Option Body) Flaw) → count ≤ from → r ≡ Ok None → (m : ℕ) → count ≤ first + 8 * m → Found (bits_in os count) (past_flags m first (drop first (bits_in os count))) work r
   unfolding starts
   ends-empty r none e =
       let len = length-heard os 0 count in

@@ -10,5 +10,4 @@ pub mod Places
 pub mod Octets
 pub mod Bodies
 pub mod Answering
-pub mod Counting
 pub mod Whole

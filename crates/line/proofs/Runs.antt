@@ -93,10 +93,6 @@ pub unstuff-six : (w : List Bool) → unstuff 5 (ones 6 ++ w) ≡ None
 unfolding unstuff
 unstuff-six w = refl
 
-pub unstuff-zero : (n : ℕ) (w : List Bool) → unstuff (suc n) (false ∷ w) ≡ prepend (false ∷ []) (unstuff 5 w)
-unfolding unstuff
-unstuff-zero n w = refl
-
 -- in front of the first flag in what begins with a 0 stands nothing, or what begins with that 0: so it is the same how many 1s may still come
 zero-first : (n : ℕ) (t : Bool) (x : Option (List Bool)) → then (cond t (Some []) (prepend (false ∷ []) x)) (unstuff (suc n)) ≡ then (cond t (Some []) (prepend (false ∷ []) x)) (unstuff 5)
 unfolding unstuff

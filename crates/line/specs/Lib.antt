@@ -6,5 +6,6 @@ pub mod Burst
 pub mod Hearing
 pub mod Packing
 pub mod Sending
+pub mod Sinks
 pub mod Listening
 pub mod Scanning

@@ -5,8 +5,10 @@ ghost use Rattle.line.specs.Stuffing.{stuffed};
 ghost use Rattle.line.specs.Burst.{flagged, writing, Output, Written};
 
 use crate::check::fcs;
+use crate::counter::Counter;
 use crate::sender::Sender;
-use crate::stuffing::StuffedLength;
+use crate::sink::Sink;
+use crate::writer::ToneWriter;
 use answers::refusal::Refusal;
 
 // The longest message, in octets.
@@ -25,34 +27,40 @@ pub fn write(message: &[u8], out: &mut [u8]) -> Result<usize, Refusal>
     }
     let tail = fcs(message).to_le_bytes();
     let count = frame_length(message, &tail);
-    if (count + 7) / 8 > out.len() {
+    if count.div_ceil(8) > out.len() {
         return Err(Refusal::OutputTooShort);
     }
-    send(message, &tail, out);
+    let _written = send(message, &tail, out);
     Ok(count)
 }
 
-// The tones that a message and its FCS take.
-fn frame_length(message: &[u8], tail: &[u8]) -> usize
-    requires { length message.now + length tail.now ≤ 16384 }
-    ensures small { result ≤ 300000 }
-    ensures value { result ≡ length (flagged (stuffed (bits_of (message.now ++ tail.now)))) }
+// Puts flags, message, FCS and flag into a sink.
+fn framed<S: Sink>(sink: S, message: &[u8], tail: &[u8]) -> S
+    ensures { S.takes sink (flagged (stuffed (bits_of (message.now ++ tail.now)))) result }
 {
-    let mut body = StuffedLength::new();
-    body.add_octets(message);
-    body.add_octets(tail);
-    8 * FLAGS + body.bits() + 8
+    let mut sender = Sender::new(sink);
+    sender.put_flags(FLAGS);
+    sender.put_octets(message);
+    sender.put_octets(tail);
+    sender.put_flag();
+    sender.into_sink()
 }
 
-// Writes flags, message, FCS and flag, where there is room for them.
-fn send(message: &[u8], tail: &[u8], out: &mut [u8])
-    ensures { length (flagged (stuffed (bits_of (message.now ++ tail.now)))) ≤ 8 * length out.old
-        → Written (flagged (stuffed (bits_of (message.now ++ tail.now)))) out.old out.new }
+// How many tones a message and its FCS take.
+fn frame_length(message: &[u8], tail: &[u8]) -> usize
+    requires { length message.now + length tail.now ≤ 16384 }
+    ensures { result ≡ length (flagged (stuffed (bits_of (message.now ++ tail.now)))) }
 {
-    let mut sender = Sender::new();
-    sender.put_flags(out, FLAGS);
-    sender.put_octets(out, message);
-    sender.put_octets(out, tail);
-    sender.put_flag(out);
-    sender.finish(out);
+    framed(Counter::new(), message, tail).bits()
+}
+
+// Writes them, where there is room, and hands the octets back.
+fn send<'a>(message: &[u8], tail: &[u8], out: &'a mut [u8]) -> &'a mut [u8]
+    ensures lender { result.ghost_name ≡ out.entry.ghost_name }
+    ensures written { length (flagged (stuffed (bits_of (message.now ++ tail.now)))) ≤ 8 * length out.old
+        → Written (flagged (stuffed (bits_of (message.now ++ tail.now)))) out.old result.now }
+{
+    let mut writer = framed(ToneWriter::new(out), message, tail);
+    writer.finish();
+    writer.into_octets()
 }

@@ -1,11 +1,11 @@
 // Hearing a frame.
-ghost use Rattle.std.specs.Prelude.{◌≡◌, ℕ, ◌+◌, ◌*◌, ◌≤◌, length, replicate};
-ghost use Rattle.line.specs.Bits.{bits_in};
-ghost use Rattle.line.specs.Hearing.{admission, hears, hears_line, checked, Fronts, laid};
+ghost use Rattle.std.specs.Prelude.{◌≡◌, ℕ, ◌+◌, ◌*◌, ◌≤◌, length};
+ghost use Rattle.line.specs.Hearing.{admission, hears, checked, laid};
+ghost use Rattle.line.specs.Scanning.{Reached};
 
 use crate::check::register;
 use crate::heard::{Heard, Hearing};
-use crate::scan::{Body, LONGEST_BODY, body_from, first_flag_end};
+use crate::scan::{Body, Flaw, LONGEST_BODY, body_from, first_flag_end};
 use answers::refusal::Refusal;
 
 // The work buffer that the longest body needs, in octets.
@@ -33,53 +33,52 @@ pub fn hear(burst: &[u8], count: usize, start: usize, work: &mut [u8]) -> Heard
     ensures answer { result ≡ (hears burst.now count start (length work.old)).answer }
     ensures work { work.new ≡ laid (length work.old) (hears burst.now count start (length work.old)).octets }
 {
-    if let Err(refusal) = admit(burst, count, start, work) {
-        clear(work);
-        return refused(refusal, start);
-    }
-    // A receiver asks here whether its store is on.
-    let heard = hear_line(burst, count, start, work);
-    match heard.hearing {
-        Hearing::Frame(n) => clear(&mut work[n..]),
-        _ => clear(work),
-    }
-    heard
-}
-
-// The same, once the buffers are known to be right; the work buffer behind the frame is not cleared yet.
-fn hear_line(burst: &[u8], count: usize, start: usize, work: &mut [u8]) -> Heard
-    requires within { count ≤ 8 * length burst.now }
-    requires order { start ≤ count }
-    requires room { 16500 ≤ length work.old }
-    ensures answer { result ≡ (hears_line (bits_in burst.now count) start).answer }
-    ensures front { Fronts (hears_line (bits_in burst.now count) start).octets work.new }
-{
-    let Some(first) = first_flag_end(burst, count, start) else {
-        return Heard {
-            hearing: Hearing::Quiet,
-            next: count,
-        };
-    };
-    match body_from(burst, count, first, work) {
-        Body::Empty => Heard {
-            hearing: Hearing::Quiet,
-            next: count,
-        },
-        Body::TooLong(from) => refused(Refusal::BurstTooLong, from + LONGEST_BODY),
-        Body::Unclosed => refused(Refusal::Framing, count),
-        Body::Broken(place) => refused(Refusal::Framing, place),
-        Body::Misaligned(place) => refused(Refusal::OctetAlign, place),
-        Body::Octets(n, place) => {
-            if has_fcs(&work[0..n]) {
-                Heard {
-                    hearing: Hearing::Frame(n),
-                    next: place,
-                }
-            } else {
-                refused(Refusal::FcsFail, place)
+    match frame_from(burst, count, start, work) {
+        Ok(Some(Body { octets, place })) => {
+            work[octets..].fill(0);
+            Heard {
+                hearing: Hearing::Frame(octets),
+                next: place,
+            }
+        }
+        Ok(None) => {
+            work.fill(0);
+            Heard {
+                hearing: Hearing::Quiet,
+                next: count,
+            }
+        }
+        Err(Flaw { refusal, next }) => {
+            work.fill(0);
+            Heard {
+                hearing: Hearing::Refused(refusal),
+                next,
             }
         }
     }
+}
+
+// The frame, if one begins; the work buffer behind it is not cleared yet.
+fn frame_from(
+    burst: &[u8],
+    count: usize,
+    start: usize,
+    work: &mut [u8],
+) -> Result<Option<Body>, Flaw>
+    ensures { Reached (hears burst.now count start (length work.old)) count work.new result }
+{
+    admit(burst, count, start, work).map_err(|refusal| Flaw::new(refusal, start))?;
+    // A receiver asks here whether its store is on.
+    let Some(first) = first_flag_end(burst, count, start) else {
+        return Ok(None);
+    };
+    let Some(body) = body_from(burst, count, first, work)? else {
+        return Ok(None);
+    };
+    if !has_fcs(&work[..body.octets]) {
+        return Err(Flaw::new(Refusal::FcsFail, body.place));
+    }
+    Ok(Some(body))
 }
 
 // Whether octets end with the FCS of those before them.
@@ -87,22 +86,4 @@ fn has_fcs(octets: &[u8]) -> bool
     ensures { result ≡ checked octets.now }
 {
     octets.len() >= 2 && register(octets) == RESIDUE
-}
-
-fn refused(refusal: Refusal, next: usize) -> Heard
-    ensures { result ≡ record { hearing = Hearing.Refused refusal; next = next } }
-{
-    Heard {
-        hearing: Hearing::Refused(refusal),
-        next,
-    }
-}
-
-// Zeros everywhere.
-fn clear(octets: &mut [u8])
-    ensures { octets.new ≡ replicate (length octets.old) 0 }
-{
-    for octet in octets.iter_mut() {
-        *octet = 0;
-    }
 }

@@ -1,7 +1,7 @@
 // What is heard of a burst.
 use answers::refusal::Refusal;
 
-#[derive(Clone, Copy)]
+#[derive(Clone, Copy, Debug, PartialEq, Eq)]
 pub enum Hearing {
     // no frame begins here
     Quiet,
@@ -11,7 +11,7 @@ pub enum Hearing {
 }
 
 // What is heard, and the place where to listen next.
-#[derive(Clone, Copy)]
+#[derive(Clone, Copy, Debug, PartialEq, Eq)]
 pub struct Heard {
     pub hearing: Hearing,
     pub next: usize,

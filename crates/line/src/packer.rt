@@ -4,6 +4,8 @@ ghost use Rattle.std.specs.List.{AllByRecursion};
 ghost use Rattle.line.specs.Packing.{held};
 
 // How far a buffer is filled: whole octets, and the low bits of the next one.
+// Kept: the buffer is a parameter of `push`. Held here it is no plainer: the way through a body begins anew at each flag, over the
+// same buffer, and would have to hand it back on every way out.
 #[derive(Clone, Copy)]
 pub struct Packer {
     octets: usize,

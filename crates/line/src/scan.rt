@@ -3,32 +3,40 @@ ghost use Rattle.std.specs.Prelude.{◌≡◌, ℕ, ◌+◌, ◌-◌, ◌*◌, �
 ghost use Rattle.std.specs.Option.{option_map};
 ghost use Rattle.line.specs.Bits.{bits_in};
 ghost use Rattle.line.specs.Flags.{first_flag, past_flags};
-ghost use Rattle.line.specs.Scanning.{Found, closed_as};
+ghost use Rattle.line.specs.Scanning.{Found, closed_as, flaw};
 
 use crate::listener::{Listener, Sign};
 use crate::packer::Packer;
 use crate::tones::Decoder;
+use answers::refusal::Refusal;
 
 // The longest body of profile 1, in bits.
 pub(crate) const LONGEST_BODY: usize = 132_000;
 
-// What a body is found to be; a place is that of its closing flag.
+// A body that is right: so many octets, at the front of the work buffer, and the place of its closing flag.
 #[derive(Clone, Copy)]
-pub enum Body {
-    // no bits behind the opening flag
-    Empty,
-    // too long from this place
-    TooLong(usize),
-    // no closing flag
-    Unclosed,
-    // not the stuffed form of anything
-    Broken(usize),
-    // not whole octets
-    Misaligned(usize),
-    // so many octets, at the front of the work buffer
-    Octets(usize, usize),
+pub struct Body {
+    pub(crate) octets: usize,
+    pub(crate) place: usize,
 }
 
+// Why no frame is heard, and the place where to listen next.
+#[derive(Clone, Copy)]
+pub struct Flaw {
+    pub(crate) refusal: Refusal,
+    pub(crate) next: usize,
+}
+
+impl Flaw {
+    pub(crate) fn new(refusal: Refusal, next: usize) -> Flaw
+        ensures { result ≡ flaw refusal next }
+    {
+        Flaw { refusal, next }
+    }
+}
+
+// Kept: burst and count are two parameters here and below. A struct of both is no plainer: `hear` and `admit` take them apart, and
+// what ties them is asked twice only.
 // The place behind the first flag at or after start.
 pub(crate) fn first_flag_end(burst: &[u8], count: usize, start: usize) -> Option<usize>
     requires within { count ≤ 8 * length burst.now }
@@ -45,8 +53,14 @@ pub(crate) fn first_flag_end(burst: &[u8], count: usize, start: usize) -> Option
     None
 }
 
-// What the body behind the opening flag is, from the place behind a flag on. Further flags that follow at once open it anew.
-pub(crate) fn body_from(burst: &[u8], count: usize, first: usize, work: &mut [u8]) -> Body
+// The body behind the opening flag, if there are bits behind it, from the place behind a flag on. Further flags that follow at
+// once open it anew.
+pub(crate) fn body_from(
+    burst: &[u8],
+    count: usize,
+    first: usize,
+    work: &mut [u8],
+) -> Result<Option<Body>, Flaw>
     requires within { count ≤ 8 * length burst.now }
     requires order { first ≤ count }
     requires room { 16500 ≤ length work.old }
@@ -62,7 +76,7 @@ pub(crate) fn body_from(burst: &[u8], count: usize, first: usize, work: &mut [u8
         match listener.step(bit) {
             Sign::Flag => {
                 if k > from + 7 {
-                    return closed(listener, packer, k - 7);
+                    return closed(listener, packer, k - 7).map(Some);
                 }
                 from = k + 1;
                 listener = Listener::inside();
@@ -70,11 +84,11 @@ pub(crate) fn body_from(burst: &[u8], count: usize, first: usize, work: &mut [u8
             }
             sign => {
                 if k - from >= LONGEST_BODY + 7 {
-                    return if k + 1 < count {
-                        Body::TooLong(from)
+                    return Err(if k + 1 < count {
+                        Flaw::new(Refusal::BurstTooLong, from + LONGEST_BODY)
                     } else {
-                        Body::Unclosed
-                    };
+                        Flaw::new(Refusal::Framing, count)
+                    });
                 }
                 if let Sign::Bit = sign {
                     packer.push(work, bit);
@@ -83,21 +97,23 @@ pub(crate) fn body_from(burst: &[u8], count: usize, first: usize, work: &mut [u8
         }
     }
     if from < count {
-        Body::Unclosed
-    } else {
-        Body::Empty
+        return Err(Flaw::new(Refusal::Framing, count));
     }
+    Ok(None)
 }
 
 // A body whose closing flag stands at a place; six bits of the flag came in behind it.
-fn closed(listener: Listener, packer: Packer, place: usize) -> Body
+fn closed(listener: Listener, packer: Packer, place: usize) -> Result<Body, Flaw>
     ensures { result ≡ closed_as listener.broken packer.fill packer.octets place }
 {
     if listener.is_broken() {
-        return Body::Broken(place);
+        return Err(Flaw::new(Refusal::Framing, place));
     }
     if packer.fill() != 6 {
-        return Body::Misaligned(place);
+        return Err(Flaw::new(Refusal::OctetAlign, place));
     }
-    Body::Octets(packer.octets(), place)
+    Ok(Body {
+        octets: packer.octets(),
+        place,
+    })
 }

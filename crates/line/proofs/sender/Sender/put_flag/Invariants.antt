@@ -1,7 +1,6 @@
-use Rattle.std.proofs.Common.{◌≡◌}
-use Rattle.line.specs.Bits.{low}
-use Rattle.line.specs.Sending.{Sends}
+use Rattle.std.proofs.Common.{◌≡◌, take}
+use Rattle.line.specs.Flags.{flag}
 use Rattle.line.proofs.sender.Sender.put_flag.Given as goal
 
-abbrev pub invariant-loop-i : goal.invariant-loop-i
-invariant-loop-i l = Sends l.initial.self l.initial.out l.self l.out (low l.i 126) × (l.self.left ≡ l.initial.self.left)
+abbrev pub invariant-loop-bit : goal.invariant-loop-bit
+invariant-loop-bit g l = record { takes : g.S.Sink.takes l.initial.self.sink (take l.bit-index flag) l.self.sink; left : l.self.left ≡ l.initial.self.left }

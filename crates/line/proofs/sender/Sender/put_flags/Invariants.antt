@@ -1,7 +1,6 @@
 use Rattle.std.proofs.Common.{◌≡◌}
 use Rattle.line.specs.Burst.{flags}
-use Rattle.line.specs.Sending.{Sends}
 use Rattle.line.proofs.sender.Sender.put_flags.Given as goal
 
 abbrev pub invariant-loop-i : goal.invariant-loop-i
-invariant-loop-i l = Sends l.initial.self l.initial.out l.self l.out (flags l._i) × (l.self.left ≡ l.initial.self.left)
+invariant-loop-i g l = record { takes : g.S.Sink.takes l.initial.self.sink (flags l._i) l.self.sink; left : l.self.left ≡ l.initial.self.left }

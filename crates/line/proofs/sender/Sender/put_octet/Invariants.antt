@@ -1,6 +1,7 @@
+use Rattle.std.proofs.Common.{◌-◌}
 use Rattle.line.specs.Bits.{low}
 use Rattle.line.proofs.Sending.{Stuffs}
 use Rattle.line.proofs.sender.Sender.put_octet.Given as goal
 
 abbrev pub invariant-loop-i : goal.invariant-loop-i
-invariant-loop-i l = Stuffs l.initial.self l.initial.out l.self l.out (low l.i l.octet)
+invariant-loop-i g l = Stuffs g.S.Sink.takes l.initial.self.sink (l.initial.self.left - 1) (low l.i l.octet) l.self.sink (l.self.left - 1)
