@@ -21,8 +21,6 @@ pub fn loopback(message: &[u8], burst: &mut [u8], work: &mut [u8]) -> Result<Hea
     ensures stuffing { StuffingTold }
     ensures residue { CheckTold }
 {
-    match write(message, burst) {
-        Ok(count) => Ok(hear(burst, count, 0, work)),
-        Err(refusal) => Err(refusal),
-    }
+    let count = write(message, burst)?;
+    Ok(hear(burst, count, 0, work))
 }

@@ -2,5 +2,5 @@ use Rattle.line_laws.proofs.Openings.{opening_told}
 use Rattle.line_laws.proofs.Firsts.{closing-told}
 use Rattle.line_laws.proofs.laws.flags_are_first.Goals as goal
 
-pub returns : goal.returns
-returns c = λ bits start b. (opening_told bits start b, closing-told bits start b)
+pub returns-clause-told : goal.returns-clause-told
+returns-clause-told c = λ bits start b. (opening_told bits start b, closing-told bits start b)
