@@ -1,7 +1,7 @@
 -- A journal in an image, from its store's facts to the image and its supply.
 use Rattle.std.proofs.Common.{◌≡◌, ℕ, Bool, true, false, List, Some, None, Option, refl, ap, ◌∙◌, subst}
 use denote.MutBor.{MutBor}
-use Rattle.marks.specs.declared.mark.CutLeaves.{CutLeaves}
+use Rattle.marks.specs.declared.power.Power.{Power}
 use Rattle.marks.specs.Device.{device_of}
 use Rattle.marks.specs.Octets.{cells_in, ImageTouched}
 use Rattle.marks.specs.State.{State, SwitchedOn}
@@ -16,25 +16,18 @@ use Rattle.receiver.proofs.Law.{switch-goes-on}
 use Rattle.hosts.specs.declared.supply.Supply.{Supply}
 use Rattle.hosts.specs.Images.{floor_on, Wrote, Untouched, ImageLeft, ListenedIn, SwitchingGoesOn}
 
-abbrev supply_of : Bool → ℕ → CutLeaves → Option ℕ → Option ℕ → Supply
-supply_of on charge leaves last floor = record { on = on; charge = charge; leaves = leaves; last = last; floor = floor }
-
-pub supply-at : (b b' : Bool) (n n' : ℕ) (v v' : CutLeaves) (l l' floor : Option ℕ) → b ≡ b' → n ≡ n' → v ≡ v' → l ≡ l' → supply_of b n v l floor ≡ supply_of b' n' v' l' floor
-supply-at b b' n n' v v' l l' floor e f g h =
-    ap (λ (x : Bool). supply_of x n v l floor) e ∙ ap (λ (x : ℕ). supply_of b' x v l floor) f ∙ ap (λ (x : CutLeaves). supply_of b' n' x l floor) g ∙ ap (λ (x : Option ℕ). supply_of b' n' v' x floor) h
-
 -- what is kept of a journal by what it holds
-module _ {J : Type 0} (img : J → MutBor (List ℕ)) (on : J → Bool) (charge : J → ℕ) (leaves : J → CutLeaves) (last : J → Option ℕ) (floor : Option ℕ) where
+module _ {J : Type 0} (img : J → MutBor (List ℕ)) (power : J → Power) (last : J → Option ℕ) (floor : Option ℕ) where
   abbrev Touch : J → J → Type 0
-  Touch j k = JournalTouches (ImageTouched (img j) (leaves j) (img k) (leaves k)) (cells_in (img j).now) (last j) (last k)
+  Touch j k = JournalTouches (ImageTouched (img j) (power j) (img k) (power k)) (cells_in (img j).now) (last j) (last k)
 
   abbrev pub supply_in : J → Supply
-  supply_in j = supply_of (on j) (charge j) (leaves j) (last j) floor
+  supply_in j = record { power = power j; last = last j; floor = floor }
 
   pub record Left (v : Verdict) (j k : J) : Type 0 where
     pub image : ImageLeft v (img j).now (supply_in j) (img k).now (supply_in k)
     pub lender : (img k).ghost_name ≡ (img j).ghost_name
-    pub same : leaves k ≡ leaves j
+    pub same : (power k).leaves ≡ (power j).leaves
 
   untouched : (j k : J) → k ≡ j → Untouched (img j).now (supply_in j) (img k).now (supply_in k)
   untouched j k e = record { octets = ap (λ x. (img x).now) e; supply = ap supply_in e }
@@ -43,15 +36,22 @@ module _ {J : Type 0} (img : J → MutBor (List ℕ)) (on : J → Bool) (charge 
   wrote j k x = record { octets = x.below.octets; written = x.below.written; place = x.place; floor = refl; leaves = x.below.leaves }
 
   by-cut : (cut : Bool) (j k : J) → whether cut (Touch j k) (k ≡ j)
-      → whether cut (Wrote (img j).now (supply_in j) (img k).now (supply_in k)) (Untouched (img j).now (supply_in j) (img k).now (supply_in k)) × ((img k).ghost_name ≡ (img j).ghost_name) × (leaves k ≡ leaves j)
+      → whether cut (Wrote (img j).now (supply_in j) (img k).now (supply_in k)) (Untouched (img j).now (supply_in j) (img k).now (supply_in k)) × ((img k).ghost_name ≡ (img j).ghost_name) × ((power k).leaves ≡ (power j).leaves)
   by-cut true j k x = (wrote j k x, x.below.lender, x.below.leaves)
-  by-cut false j k e = (untouched j k e, ap (λ x. (img x).ghost_name) e, ap leaves e)
+  by-cut false j k e = (untouched j k e, ap (λ x. (img x).ghost_name) e, ap (λ x. (power x).leaves) e)
 
   pub left : (v : Verdict) (j k : J) → StoreMoves Touch j v k → Left v j k
-  left Quiet j k e = record { image = untouched j k e; lender = ap (λ x. (img x).ghost_name) e; same = ap leaves e }
-  left Duplicate j k e = record { image = untouched j k e; lender = ap (λ x. (img x).ghost_name) e; same = ap leaves e }
+  left Quiet j k e = record { image = untouched j k e; lender = ap (λ x. (img x).ghost_name) e; same = ap (λ x. (power x).leaves) e }
+  left Duplicate j k e = record { image = untouched j k e; lender = ap (λ x. (img x).ghost_name) e; same = ap (λ x. (power x).leaves) e }
   left (Refused r) j k x = let y = by-cut (is_cut r) j k x in record { image = y.0; lender = y.1; same = y.2 }
   left (Released d) j k x = record { image = wrote j k x; lender = x.below.lender; same = x.below.leaves }
+
+-- power and a supply are what their parts are
+pub power_at : (p : Power) (q : Power) → q.on ≡ p.on → q.charge ≡ p.charge → q.leaves ≡ p.leaves → q ≡ p
+power_at p q e f g = λ i. record { on = e i; charge = f i; leaves = g i }
+
+pub supply-at : (p q : Power) (l l' floor : Option ℕ) → p ≡ q → l ≡ l' → ◌≡◌ {A = Supply} (record { power = p; last = l; floor = floor }) (record { power = q; last = l'; floor = floor })
+supply-at p q l l' floor e f = λ i. record { power = e i; last = f i; floor = floor }
 
 pub listened-at : (i : Inputs) (a : Answer) (m n : List ℕ) (p q : Supply) (m' n' : List ℕ) (p' q' : Supply) → m ≡ n → p ≡ q → m' ≡ n' → p' ≡ q' → ListenedIn i m p a m' p' → ListenedIn i n q a n' q'
 listened-at i a m n p q m' n' p' q' e f g h x =
@@ -67,4 +67,4 @@ switched-under (Some f) s n t x = record { marks = λ p. ap (floored f) (x.marks
 pub switching_goes-on : SwitchingGoesOn
 switching_goes-on m p n =
     switch-goes-on _ _ _
-    (switched-under p.floor (state_in (device_of (cells_in m) p.on p.charge)) n (state_in (device_of (cells_in m) true n)) (record { marks = λ q. refl; rooms = λ q. refl; powered = refl; charged = refl }))
+    (switched-under p.floor (state_in (device_of (cells_in m) p.power.on p.power.charge)) n (state_in (device_of (cells_in m) true n)) (record { marks = λ q. refl; rooms = λ q. refl; powered = refl; charged = refl }))

@@ -20,15 +20,15 @@ floor_on (Some f) s = on_floor f s
 
 -- what a journal in an image means
 abbrev pub image_state : List ℕ → Supply → State
-image_state m p = floor_on p.floor (state_in (device_of (cells_in m) p.on p.charge))
+image_state m p = floor_on p.floor (state_in (device_of (cells_in m) p.power.on p.power.charge))
 
 -- one cell of the image at most differs, as a write or its cut leaves it; the chosen cell is the one last written; floor and what a cut leaves stay
 pub record Wrote (m : List ℕ) (p : Supply) (m' : List ℕ) (p' : Supply) : Type 0 where
   pub octets : OneCell m m'
-  pub written : AfterWrite p.leaves m m'
+  pub written : AfterWrite p.power.leaves m m'
   pub place : p'.last ≡ chosen (cells_in m) p.last
   pub floor : p'.floor ≡ p.floor
-  pub leaves : p'.leaves ≡ p.leaves
+  pub leaves : p'.power.leaves ≡ p.power.leaves
 
 -- every octet and all that lasts beside them are as they were
 pub record Untouched (m : List ℕ) (p : Supply) (m' : List ℕ) (p' : Supply) : Type 0 where
@@ -49,7 +49,7 @@ pub record ListenedIn (i : Inputs) (m : List ℕ) (p : Supply) (a : Answer) (m' 
 
 -- a supply that was switched on for n writes
 abbrev pub switched_on : Supply → ℕ → Supply
-switched_on p n = record { on = true; charge = n; leaves = p.leaves; last = None; floor = p.floor }
+switched_on p n = record { power = record { on = true; charge = n; leaves = p.power.leaves }; last = None; floor = p.floor }
 
 -- switching an image on means what switching a store on means, and goes on lawfully
 abbrev pub SwitchingGoesOn : Type 0

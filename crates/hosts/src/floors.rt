@@ -1,7 +1,7 @@
 // Listening over any store under a floor, if there is one.
 ghost use Rattle.std.specs.Prelude.{◌≡◌, length};
 ghost use Rattle.line.specs.Hearing.{laid};
-ghost use Rattle.judging.specs.Inputs.{inputs_by};
+ghost use Rattle.judging.specs.Inputs.{inputs_of};
 ghost use Rattle.judging.specs.Frames.{message_heard};
 ghost use Rattle.judging.specs.Effects.{StoreMoves, left_at};
 ghost use Rattle.receiver.specs.History.{ListenGoesOn};
@@ -9,7 +9,7 @@ ghost use Rattle.receiver.specs.Frames.{SentIf};
 ghost use Rattle.hosts.specs.Images.{floor_on};
 
 use journal::floor::Floor;
-use judging::answer::{Answer, Listening};
+use judging::answer::{Answer, Lent};
 use marks::mark::{Mark, Pair};
 use marks::store::Store;
 use receiver::receiver::Receiver;
@@ -18,19 +18,16 @@ use verdicts::Verifier;
 // Listens once over a store, and hands it back.
 fn listen_over<S: Store, V: Verifier>(
     store: S,
-    verifier: &V,
-    burst: &[u8],
-    listening: Listening,
-    catalog: &[u64],
+    lent: &Lent<'_, V>,
     work: &mut [u8],
 ) -> (Answer, S)
-    ensures goes { ListenGoesOn (inputs_by V.known V.good verifier.now burst.now listening catalog.now (length work.old)) (S.state store) result.0 (S.state result.1) }
+    ensures goes { ListenGoesOn (inputs_of V.known V.good lent.now (length work.old)) (S.state store) result.0 (S.state result.1) }
     ensures memory { StoreMoves S.touches store result.0.verdict result.1 }
-    ensures work { work.new ≡ laid (length work.old) (left_at result.0.verdict (message_heard (inputs_by V.known V.good verifier.now burst.now listening catalog.now (length work.old)))) }
-    ensures sent { SentIf (inputs_by V.known V.good verifier.now burst.now listening catalog.now (length work.old)) result.0.verdict result.0.next }
+    ensures work { work.new ≡ laid (length work.old) (left_at result.0.verdict (message_heard (inputs_of V.known V.good lent.now (length work.old)))) }
+    ensures sent { SentIf (inputs_of V.known V.good lent.now (length work.old)) result.0.verdict result.0.next }
 {
     let mut receiver = Receiver::new(store);
-    let answer = receiver.listen(verifier, burst, listening, catalog, work);
+    let answer = receiver.listen(lent, work);
     (answer, receiver.into_store())
 }
 
@@ -38,22 +35,18 @@ fn listen_over<S: Store, V: Verifier>(
 pub fn listen_under<S: Store, V: Verifier>(
     store: S,
     floor: Option<u64>,
-    verifier: &V,
-    burst: &[u8],
-    listening: Listening,
-    catalog: &[u64],
+    lent: &Lent<'_, V>,
     work: &mut [u8],
 ) -> (Answer, S)
-    ensures goes { ListenGoesOn (inputs_by V.known V.good verifier.now burst.now listening catalog.now (length work.old)) (floor_on floor (S.state store)) result.0 (floor_on floor (S.state result.1)) }
+    ensures goes { ListenGoesOn (inputs_of V.known V.good lent.now (length work.old)) (floor_on floor (S.state store)) result.0 (floor_on floor (S.state result.1)) }
     ensures memory { StoreMoves S.touches store result.0.verdict result.1 }
-    ensures work { work.new ≡ laid (length work.old) (left_at result.0.verdict (message_heard (inputs_by V.known V.good verifier.now burst.now listening catalog.now (length work.old)))) }
-    ensures sent { SentIf (inputs_by V.known V.good verifier.now burst.now listening catalog.now (length work.old)) result.0.verdict result.0.next }
+    ensures work { work.new ≡ laid (length work.old) (left_at result.0.verdict (message_heard (inputs_of V.known V.good lent.now (length work.old)))) }
+    ensures sent { SentIf (inputs_of V.known V.good lent.now (length work.old)) result.0.verdict result.0.next }
 {
     match floor {
-        None => listen_over(store, verifier, burst, listening, catalog, work),
+        None => listen_over(store, lent, work),
         Some(epoch) => {
-            let floored = Floor::new(store, epoch);
-            let (answer, floored) = listen_over(floored, verifier, burst, listening, catalog, work);
+            let (answer, floored) = listen_over(Floor::new(store, epoch), lent, work);
             (answer, floored.into_store())
         }
     }

@@ -1,7 +1,7 @@
 // A receiver over a journal in an image that a host lends.
 ghost use Rattle.std.specs.Prelude.{◌≡◌, length};
 ghost use Rattle.line.specs.Hearing.{laid};
-ghost use Rattle.judging.specs.Inputs.{inputs_by};
+ghost use Rattle.judging.specs.Inputs.{inputs_of};
 ghost use Rattle.judging.specs.Frames.{message_heard};
 ghost use Rattle.judging.specs.Effects.{left_at};
 ghost use Rattle.receiver.specs.Frames.{SentIf};
@@ -10,10 +10,11 @@ ghost use Rattle.hosts.specs.Images.{image_state, ListenedIn, switched_on, Switc
 use crate::floors::{listen_under, mark_under};
 use crate::supply::Supply;
 use journal::journal::Journal;
-use judging::answer::{Answer, Listening};
+use judging::answer::{Answer, Lent};
 use marks::cells::Cells;
 use marks::image::ImageCells;
 use marks::mark::{Mark, Pair};
+use marks::power::Power;
 use marks::store::Store;
 use verdicts::Verifier;
 
@@ -21,36 +22,28 @@ use verdicts::Verifier;
 fn listen_on<'a, V: Verifier>(
     image: &'a mut [u8],
     supply: Supply,
-    verifier: &V,
-    burst: &[u8],
-    listening: Listening,
-    catalog: &[u64],
+    lent: &Lent<'_, V>,
     work: &mut [u8],
 ) -> (Answer, Supply, &'a mut [u8])
     ensures lender { result.2.ghost_name ≡ image.entry.ghost_name }
-    ensures heard { ListenedIn (inputs_by V.known V.good verifier.now burst.now listening catalog.now (length work.old)) image.old supply result.0 result.2.now result.1 }
-    ensures work { work.new ≡ laid (length work.old) (left_at result.0.verdict (message_heard (inputs_by V.known V.good verifier.now burst.now listening catalog.now (length work.old)))) }
-    ensures sent { SentIf (inputs_by V.known V.good verifier.now burst.now listening catalog.now (length work.old)) result.0.verdict result.0.next }
+    ensures heard { ListenedIn (inputs_of V.known V.good lent.now (length work.old)) image.old supply result.0 result.2.now result.1 }
+    ensures work { work.new ≡ laid (length work.old) (left_at result.0.verdict (message_heard (inputs_of V.known V.good lent.now (length work.old)))) }
+    ensures sent { SentIf (inputs_of V.known V.good lent.now (length work.old)) result.0.verdict result.0.next }
 {
-    let cells = ImageCells::new(image, supply.on, supply.charge, supply.leaves);
+    let cells = ImageCells::new(image, supply.power);
     let journal = Journal::resume(cells, supply.last);
-    let (answer, journal) = listen_under(
-        journal,
-        supply.floor,
-        verifier,
-        burst,
-        listening,
-        catalog,
-        work,
-    );
+    let (answer, journal) = listen_under(journal, supply.floor, lent, work);
     let last = journal.written_last();
     let cells = journal.into_cells();
-    let left = Supply {
+    let power = Power {
         on: cells.is_on(),
         charge: cells.charge(),
-        leaves: supply.leaves,
+        ..supply.power
+    };
+    let left = Supply {
+        power,
         last,
-        floor: supply.floor,
+        ..supply
     };
     (answer, left, cells.into_image())
 }
@@ -59,19 +52,14 @@ fn listen_on<'a, V: Verifier>(
 pub fn listen_in<V: Verifier>(
     image: &mut [u8],
     supply: &mut Supply,
-    verifier: &V,
-    burst: &[u8],
-    listening: Listening,
-    catalog: &[u64],
+    lent: &Lent<'_, V>,
     work: &mut [u8],
 ) -> Answer
-    ensures heard { ListenedIn (inputs_by V.known V.good verifier.now burst.now listening catalog.now (length work.old)) image.old supply.old result image.new supply.new }
-    ensures work { work.new ≡ laid (length work.old) (left_at result.verdict (message_heard (inputs_by V.known V.good verifier.now burst.now listening catalog.now (length work.old)))) }
-    ensures sent { SentIf (inputs_by V.known V.good verifier.now burst.now listening catalog.now (length work.old)) result.verdict result.next }
+    ensures heard { ListenedIn (inputs_of V.known V.good lent.now (length work.old)) image.old supply.old result image.new supply.new }
+    ensures work { work.new ≡ laid (length work.old) (left_at result.verdict (message_heard (inputs_of V.known V.good lent.now (length work.old)))) }
+    ensures sent { SentIf (inputs_of V.known V.good lent.now (length work.old)) result.verdict result.next }
 {
-    let (answer, left, _back) = listen_on(
-        image, *supply, verifier, burst, listening, catalog, work,
-    );
+    let (answer, left, _back) = listen_on(image, *supply, lent, work);
     *supply = left;
     answer
 }
@@ -81,8 +69,8 @@ pub fn switch_on(supply: &mut Supply, n: u64)
     ensures supply { supply.new ≡ switched_on supply.old n }
     ensures lawful { SwitchingGoesOn }
 {
-    supply.on = true;
-    supply.charge = n;
+    supply.power.on = true;
+    supply.power.charge = n;
     supply.last = None;
 }
 
@@ -92,7 +80,7 @@ fn mark_on<'a>(image: &'a mut [u8], supply: Supply, pair: Pair) -> (Option<Mark>
     ensures image { result.1.now ≡ image.old }
     ensures mark { result.0 ≡ (image_state image.old supply).mark pair }
 {
-    let cells = ImageCells::new(image, supply.on, supply.charge, supply.leaves);
+    let cells = ImageCells::new(image, supply.power);
     let (mark, journal) = mark_under(Journal::resume(cells, supply.last), supply.floor, pair);
     (mark, journal.into_cells().into_image())
 }

@@ -43,12 +43,12 @@ module _ (rest : ℕ → List ℕ → Questions Answer) (next : ℕ) (octets : L
 
   unheard_leaves : (h : Hearing) → ((n : ℕ) → h ≡ Frame n → ⊥) → Says rest h next octets qs → (offer : Option Release) (s : State) → Leaves offer s (unheard_as h next).verdict s
   unheard_leaves Quiet f x offer s = refl
-  unheard_leaves (Refused r) f x offer s = refused-leaves offer s (refused r next) r next refl x.uncut
+  unheard_leaves (Refused r) f x offer s = refused-leaves offer s r x.uncut
   unheard_leaves (Frame n) f x offer s = absurd (f n refl)
 
   unheard_moves : (h : Hearing) → ((n : ℕ) → h ≡ Frame n → ⊥) → Says rest h next octets qs → {S : Type 0} (touches : S → S → Type 0) (s : S) → StoreMoves touches s (unheard_as h next).verdict s
   unheard_moves Quiet f x touches s = refl
-  unheard_moves (Refused r) f x touches s = refused_moves touches s (refused r next) r next refl x.uncut
+  unheard_moves (Refused r) f x touches s = refused_moves touches s r x.uncut
   unheard_moves (Frame n) f x touches s = absurd (f n refl)
 
 nothing_left : (h : Hearing) (next : ℕ) (message : List ℕ) → left_at (unheard_as h next).verdict message ≡ []

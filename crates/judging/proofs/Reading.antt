@@ -10,6 +10,7 @@ use Rattle.marks.specs.State.{State}
 use Rattle.judging.specs.declared.answer.Answer.{Answer}
 use Rattle.judging.specs.declared.answer.Release.{Release}
 use Rattle.judging.specs.declared.answer.Verdict.{Verdict}
+use Rattle.judging.specs.declared.answer.Verdict.TheVariants.{Refused}
 use Rattle.judging.specs.Inputs.{Conditions}
 use Rattle.judging.specs.Questions.{refused}
 use Rattle.judging.specs.Stages.{field_questions, message_questions}
@@ -63,15 +64,11 @@ module _ (c : Conditions) (s : State) (next : ℕ) (os : List ℕ) where
   read-stops e k = stops (is_readable os) (is_definite os) (is_deterministic os) (view_of os) next (field_questions c s next os) e k
 
 -- a refusal that is no cut leaves the store as it is
-pub refused-leaves : (offer : Option Release) (s : State) (a : Answer) (e : Refusal) (next : ℕ) → a ≡ refused e next → is_cut e ≡ false → Leaves offer s a.verdict s
-refused-leaves offer s a e next k u =
-    let stays : whether (is_cut e) (CutWrite offer s s) (s ≡ s) = subst (λ (b : Bool). whether b (CutWrite offer s s) (s ≡ s)) (sym u) refl in
-    subst (λ (x : Answer). Leaves offer s x.verdict s) (sym k) stays
+pub refused-leaves : (offer : Option Release) (s : State) (e : Refusal) → is_cut e ≡ false → Leaves offer s (Refused e) s
+refused-leaves offer s e u = subst (λ (b : Bool). whether b (CutWrite offer s s) (s ≡ s)) (sym u) refl
 
-pub refused_moves : {S : Type 0} (touches : S → S → Type 0) (s : S) (a : Answer) (e : Refusal) (next : ℕ) → a ≡ refused e next → is_cut e ≡ false → StoreMoves touches s a.verdict s
-refused_moves touches s a e next k u =
-    let stays : whether (is_cut e) (touches s s) (s ≡ s) = subst (λ (b : Bool). whether b (touches s s) (s ≡ s)) (sym u) refl in
-    subst (λ (x : Answer). StoreMoves touches s x.verdict s) (sym k) stays
+pub refused_moves : {S : Type 0} (touches : S → S → Type 0) (s : S) (e : Refusal) → is_cut e ≡ false → StoreMoves touches s (Refused e) s
+refused_moves touches s e u = subst (λ (b : Bool). whether b (touches s s) (s ≡ s)) (sym u) refl
 
 -- what is answered and left by the questions that follow is answered and left by all of them
 pub goes_first : (r : Answer) (qs rest : Questions Answer) → Goes qs rest → r ≡ first rest → r ≡ first qs

@@ -16,6 +16,7 @@ use Rattle.commands.specs.Octets.{request_at}
 use Rattle.commands.specs.Release.{allowed}
 use Rattle.marks.specs.Positions.{above}
 use Rattle.marks.specs.State.{State}
+use Rattle.judging.specs.declared.answer.Verdict.{Verdict}
 use Rattle.judging.specs.declared.answer.Verdict.TheVariants.{Quiet, Duplicate, Refused, Released}
 use Rattle.judging.specs.declared.answer.Answer.{Answer}
 use Rattle.judging.specs.declared.answer.Release.{Release}
@@ -40,6 +41,10 @@ abbrev pub unheard_as : Hearing → ℕ → Answer
 unheard_as hearing.Quiet next = quiet next
 unheard_as (hearing.Refused refusal) next = refused refusal next
 unheard_as (hearing.Frame n) next = quiet next
+
+-- a verdict with the next place
+abbrev pub answered : Verdict → ℕ → Answer
+answered verdict next = record { verdict = verdict; next = next }
 
 -- every question; those from the opening flag to the FCS (quiet, 4 to 7) are the line's
 abbrev pub questions : Inputs → State → Questions Answer

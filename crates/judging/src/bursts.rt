@@ -1,15 +1,15 @@
 // A burst, from its first question to its answer.
-ghost use Rattle.std.specs.Prelude.{◌≡◌, ◌≤◌, true, length, take};
+ghost use Rattle.std.specs.Prelude.{◌≡◌, ℕ, ◌≤◌, true, length, take};
 ghost use Rattle.answers.specs.Questions.{first};
 ghost use Rattle.line.specs.Hearing.{laid};
 ghost use Rattle.judging.specs.Inputs.{conditions_of, inputs_of};
 ghost use Rattle.judging.specs.Frames.{message_heard};
-ghost use Rattle.judging.specs.Questions.{questions, unheard_as};
+ghost use Rattle.judging.specs.Questions.{answered, questions, refused, unheard_as};
 ghost use Rattle.judging.specs.Stages.{message_questions};
 ghost use Rattle.judging.specs.Effects.{offered, Leaves, StoreMoves, left_at};
 
 use crate::answer::{Answer, Lent, Listening, Verdict};
-use crate::stages::{judge_message, refuse};
+use crate::stages::judge_message;
 use answers::refusal::Refusal;
 use line::frame::{admit, hear};
 use line::heard::{Heard, Hearing};
@@ -18,6 +18,16 @@ use verdicts::Verifier;
 
 // The octets of the FCS behind a message.
 const FCS_OCTETS: usize = 2;
+
+// A refusal, and the next place.
+fn refuse(refusal: Refusal, next: usize) -> Answer
+    ensures { result ≡ refused refusal next }
+{
+    Answer {
+        verdict: Verdict::Refused(refusal),
+        next,
+    }
+}
 
 // The answer where no frame was heard.
 fn unheard(heard: Heard) -> Answer
@@ -38,21 +48,20 @@ fn judge_frame<S: Store, V: Verifier>(
     lent: &Lent<'_, V>,
     work: &mut [u8],
     size: usize,
-    next: usize,
-) -> Answer
+) -> Verdict
     requires on { (S.state store.old).on ≡ true }
     requires fits { size ≤ length work.old }
-    ensures answer { result ≡ first (message_questions (conditions_of V.known V.good lent.now) (S.state store.old) next (take size work.old)) }
-    ensures leaves { Leaves (offered (message_questions (conditions_of V.known V.good lent.now) (S.state store.old) next (take size work.old))) (S.state store.old) result.verdict (S.state store.new) }
-    ensures memory { StoreMoves S.touches store.old result.verdict store.new }
-    ensures work { work.new ≡ laid (length work.old) (left_at result.verdict (take size work.old)) }
+    ensures answer { (next : ℕ) → answered result next ≡ first (message_questions (conditions_of V.known V.good lent.now) (S.state store.old) next (take size work.old)) }
+    ensures leaves { (next : ℕ) → Leaves (offered (message_questions (conditions_of V.known V.good lent.now) (S.state store.old) next (take size work.old))) (S.state store.old) result (S.state store.new) }
+    ensures memory { StoreMoves S.touches store.old result store.new }
+    ensures work { work.new ≡ laid (length work.old) (left_at result (take size work.old)) }
 {
-    let answer = judge_message(store, lent, &work[0..size], next);
-    match answer.verdict {
+    let verdict = judge_message(store, lent, &work[0..size]);
+    match verdict {
         Verdict::Released(_) => work[size..].fill(0),
         _ => work.fill(0),
     }
-    answer
+    verdict
 }
 
 /// Judges the first frame of a burst: the answer of the first question with a no, or the release, whose mark is then written.
@@ -75,6 +84,9 @@ pub fn judge<S: Store, V: Verifier>(store: &mut S, lent: &Lent<'_, V>, work: &mu
     let Hearing::Frame(length) = heard.hearing else {
         return unheard(heard);
     };
-    let size = length - FCS_OCTETS;
-    judge_frame(store, lent, work, size, heard.next)
+    let verdict = judge_frame(store, lent, work, length - FCS_OCTETS);
+    Answer {
+        verdict,
+        next: heard.next,
+    }
 }

@@ -1,17 +1,16 @@
 // The questions about a message, asked stage by stage. Each stage ends by handing on to the next, and the first no ends the judging.
-ghost use Rattle.std.specs.Prelude.{◌≡◌, true, length};
-ghost use Rattle.std.specs.Str.{bytes_eq};
+ghost use Rattle.std.specs.Prelude.{◌≡◌, ℕ, true, length};
 ghost use Rattle.answers.specs.Questions.{first};
 ghost use Rattle.verdicts.specs.Transcripts.{octets_of};
 ghost use Rattle.marks.specs.Positions.{above};
 ghost use Rattle.marks.specs.State.{State};
 ghost use Rattle.judging.specs.Inputs.{conditions_of};
-ghost use Rattle.judging.specs.Frames.{pair_of, mark_by, mark_of, repeats as repeated};
-ghost use Rattle.judging.specs.Questions.{refused};
+ghost use Rattle.judging.specs.Frames.{pair_of, mark_by, mark_of};
+ghost use Rattle.judging.specs.Questions.{answered};
 ghost use Rattle.judging.specs.Stages.{raise_questions, command_questions, mark_questions, signature_questions, field_questions, message_questions};
 ghost use Rattle.judging.specs.Effects.{offered, Leaves, StoreMoves};
 
-use crate::answer::{Answer, Lent, Release, Verdict};
+use crate::answer::{Lent, Release, Verdict};
 use answers::refusal::Refusal;
 use commands::{is_listed, request};
 use marks::mark::{Mark, Pair, Position, Raised};
@@ -20,17 +19,8 @@ use message::types::View;
 use message::{Message, not_expired, not_too_far, read};
 use verdicts::{Transcript, Verifier};
 
-// A refusal, and the next place.
-pub(crate) fn refuse(refusal: Refusal, next: usize) -> Answer
-    ensures { result ≡ refused refusal next }
-{
-    Answer {
-        verdict: Verdict::Refused(refusal),
-        next,
-    }
-}
-
 // The sender and its key.
+// Kept: (d) neither Pair nor View is this crate's, so no From can stand between them; Mark and View likewise.
 fn pair_of(view: &View) -> Pair
     ensures { result ≡ pair_of view.now }
 {
@@ -53,45 +43,21 @@ fn mark_of(view: &View, transcript: &Transcript<'_>) -> Mark
     }
 }
 
-fn is_same(left: [u8; 32], right: [u8; 32]) -> bool
-    ensures { result ≡ bytes_eq left right }
-{
-    left == right
-}
-
-// Whether the mark that is kept is this very one.
-fn repeats(kept: Option<Mark>, mark: Mark) -> bool
-    ensures { result ≡ repeated kept mark }
-{
-    let Some(kept) = kept else {
-        return false;
-    };
-    (kept.position.epoch == mark.position.epoch)
-        & (kept.position.counter == mark.position.counter)
-        & is_same(kept.hash, mark.hash)
-}
-
 // Room, and the write.
-fn raise<S: Store>(store: &mut S, release: Release, next: usize) -> Answer
+fn raise<S: Store>(store: &mut S, release: Release) -> Verdict
     requires on { (S.state store.old).on ≡ true }
     requires higher { above ((S.state store.old).mark release.pair) release.mark.position ≡ true }
-    ensures answer { result ≡ first (raise_questions (S.state store.old) next release) }
-    ensures leaves { Leaves (offered (raise_questions (S.state store.old) next release)) (S.state store.old) result.verdict (S.state store.new) }
-    ensures memory { StoreMoves S.touches store.old result.verdict store.new }
+    ensures answer { (next : ℕ) → answered result next ≡ first (raise_questions (S.state store.old) next release) }
+    ensures leaves { (next : ℕ) → Leaves (offered (raise_questions (S.state store.old) next release)) (S.state store.old) result (S.state store.new) }
+    ensures memory { StoreMoves S.touches store.old result store.new }
 {
     let true = store.has_room(release.pair) else {
-        return refuse(Refusal::NoRoom, next);
+        return Verdict::Refused(Refusal::NoRoom);
     };
     let Raised::Done = store.raise(release.pair, release.mark) else {
-        return Answer {
-            verdict: Verdict::Refused(Refusal::NotRaised),
-            next,
-        };
+        return Verdict::Refused(Refusal::NotRaised);
     };
-    Answer {
-        verdict: Verdict::Released(release),
-        next,
-    }
+    Verdict::Released(release)
 }
 
 // The command, and whether it may be released.
@@ -100,27 +66,26 @@ fn judge_command<S: Store, V>(
     lent: &Lent<'_, V>,
     message: Message<'_>,
     mark: Mark,
-    next: usize,
-) -> Answer
+) -> Verdict
     requires on { (S.state store.old).on ≡ true }
     requires higher { above ((S.state store.old).mark (pair_of message.view)) mark.position ≡ true }
     requires mark { mark ≡ mark_of message.octets.now message.view }
-    ensures answer { result ≡ first (command_questions lent.now.listening.suspect lent.now.catalog.now (S.state store.old) next message.entry.octets.now message.entry.view) }
-    ensures leaves { Leaves (offered (command_questions lent.now.listening.suspect lent.now.catalog.now (S.state store.old) next message.entry.octets.now message.entry.view)) (S.state store.old) result.verdict (S.state store.new) }
-    ensures memory { StoreMoves S.touches store.old result.verdict store.new }
+    ensures answer { (next : ℕ) → answered result next ≡ first (command_questions lent.now.listening.suspect lent.now.catalog.now (S.state store.old) next message.entry.octets.now message.entry.view) }
+    ensures leaves { (next : ℕ) → Leaves (offered (command_questions lent.now.listening.suspect lent.now.catalog.now (S.state store.old) next message.entry.octets.now message.entry.view)) (S.state store.old) result (S.state store.new) }
+    ensures memory { StoreMoves S.touches store.old result store.new }
 {
     let cmd = message.view.cmd;
     let true = is_listed(cmd.kind) else {
-        return refuse(Refusal::UnknownCommand, next);
+        return Verdict::Refused(Refusal::UnknownCommand);
     };
     let Ok(request) = request(message.octets, cmd.kind, cmd.args.start) else {
-        return refuse(Refusal::BadArguments, next);
+        return Verdict::Refused(Refusal::BadArguments);
     };
     let Some(command) = request.allow(lent.catalog, lent.listening.suspect) else {
-        return refuse(Refusal::AllowlistDeny, next);
+        return Verdict::Refused(Refusal::AllowlistDeny);
     };
     let None = cmd.duo else {
-        return refuse(Refusal::DuoPolicyUnknown, next);
+        return Verdict::Refused(Refusal::DuoPolicyUnknown);
     };
     let release = Release {
         pair: pair_of(&message.view),
@@ -128,7 +93,7 @@ fn judge_command<S: Store, V>(
         length: message.octets.len(),
         command,
     };
-    raise(store, release, next)
+    raise(store, release)
 }
 
 // The mark, and the clock.
@@ -137,32 +102,28 @@ fn judge_mark<S: Store, V: Verifier>(
     lent: &Lent<'_, V>,
     message: Message<'_>,
     mark: Mark,
-    next: usize,
-) -> Answer
+) -> Verdict
     requires on { (S.state store.old).on ≡ true }
     requires mark { mark ≡ mark_of message.octets.now message.view }
-    ensures answer { result ≡ first (mark_questions (conditions_of V.known V.good lent.now) (S.state store.old) next message.entry.octets.now message.entry.view) }
-    ensures leaves { Leaves (offered (mark_questions (conditions_of V.known V.good lent.now) (S.state store.old) next message.entry.octets.now message.entry.view)) (S.state store.old) result.verdict (S.state store.new) }
-    ensures memory { StoreMoves S.touches store.old result.verdict store.new }
+    ensures answer { (next : ℕ) → answered result next ≡ first (mark_questions (conditions_of V.known V.good lent.now) (S.state store.old) next message.entry.octets.now message.entry.view) }
+    ensures leaves { (next : ℕ) → Leaves (offered (mark_questions (conditions_of V.known V.good lent.now) (S.state store.old) next message.entry.octets.now message.entry.view)) (S.state store.old) result (S.state store.new) }
+    ensures memory { StoreMoves S.touches store.old result store.new }
 {
     let kept = store.mark(pair_of(&message.view));
-    let false = repeats(kept, mark) else {
-        return Answer {
-            verdict: Verdict::Duplicate,
-            next,
-        };
+    let false = kept == Some(mark) else {
+        return Verdict::Duplicate;
     };
     let true = mark.position.is_above(kept) else {
-        return refuse(Refusal::Replay, next);
+        return Verdict::Refused(Refusal::Replay);
     };
     let exp = message.view.mid.exp;
     let true = not_expired(lent.listening.clock, exp) else {
-        return refuse(Refusal::Expired, next);
+        return Verdict::Refused(Refusal::Expired);
     };
     let true = not_too_far(lent.listening.clock, exp) else {
-        return refuse(Refusal::ExpTooFar, next);
+        return Verdict::Refused(Refusal::ExpTooFar);
     };
-    judge_command(store, lent, message, mark, next)
+    judge_command(store, lent, message, mark)
 }
 
 // The key, and the signature.
@@ -170,29 +131,28 @@ fn judge_signature<S: Store, V: Verifier>(
     store: &mut S,
     lent: &Lent<'_, V>,
     message: Message<'_>,
-    next: usize,
-) -> Answer
+) -> Verdict
     requires on { (S.state store.old).on ≡ true }
-    ensures answer { result ≡ first (signature_questions (conditions_of V.known V.good lent.now) (S.state store.old) next message.entry.octets.now message.entry.view) }
-    ensures leaves { Leaves (offered (signature_questions (conditions_of V.known V.good lent.now) (S.state store.old) next message.entry.octets.now message.entry.view)) (S.state store.old) result.verdict (S.state store.new) }
-    ensures memory { StoreMoves S.touches store.old result.verdict store.new }
+    ensures answer { (next : ℕ) → answered result next ≡ first (signature_questions (conditions_of V.known V.good lent.now) (S.state store.old) next message.entry.octets.now message.entry.view) }
+    ensures leaves { (next : ℕ) → Leaves (offered (signature_questions (conditions_of V.known V.good lent.now) (S.state store.old) next message.entry.octets.now message.entry.view)) (S.state store.old) result (S.state store.new) }
+    ensures memory { StoreMoves S.touches store.old result store.new }
 {
     let auth = message.view.auth;
     let true = lent.verifier.knows(&auth.kid, auth.alg) else {
-        return refuse(Refusal::KidUnknown, next);
+        return Verdict::Refused(Refusal::KidUnknown);
     };
     let true = message.signature_length_fits() else {
-        return refuse(Refusal::SignatureLength, next);
+        return Verdict::Refused(Refusal::SignatureLength);
     };
     let transcript = message.transcript();
     let true = lent
         .verifier
         .is_good(&auth.kid, auth.alg, &transcript, message.signature())
     else {
-        return refuse(Refusal::AuthFail, next);
+        return Verdict::Refused(Refusal::AuthFail);
     };
     let mark = mark_of(&message.view, &transcript);
-    judge_mark(store, lent, message, mark, next)
+    judge_mark(store, lent, message, mark)
 }
 
 // The fields by themselves.
@@ -200,23 +160,22 @@ fn judge_fields<S: Store, V: Verifier>(
     store: &mut S,
     lent: &Lent<'_, V>,
     message: Message<'_>,
-    next: usize,
-) -> Answer
+) -> Verdict
     requires on { (S.state store.old).on ≡ true }
-    ensures answer { result ≡ first (field_questions (conditions_of V.known V.good lent.now) (S.state store.old) next message.entry.octets.now message.entry.view) }
-    ensures leaves { Leaves (offered (field_questions (conditions_of V.known V.good lent.now) (S.state store.old) next message.entry.octets.now message.entry.view)) (S.state store.old) result.verdict (S.state store.new) }
-    ensures memory { StoreMoves S.touches store.old result.verdict store.new }
+    ensures answer { (next : ℕ) → answered result next ≡ first (field_questions (conditions_of V.known V.good lent.now) (S.state store.old) next message.entry.octets.now message.entry.view) }
+    ensures leaves { (next : ℕ) → Leaves (offered (field_questions (conditions_of V.known V.good lent.now) (S.state store.old) next message.entry.octets.now message.entry.view)) (S.state store.old) result (S.state store.new) }
+    ensures memory { StoreMoves S.touches store.old result store.new }
 {
     let true = message.profile_matches() else {
-        return refuse(Refusal::ProfileMismatch, next);
+        return Verdict::Refused(Refusal::ProfileMismatch);
     };
     let true = message.sizes_fit() else {
-        return refuse(Refusal::SizeLimit, next);
+        return Verdict::Refused(Refusal::SizeLimit);
     };
     let true = message.echo_matches() else {
-        return refuse(Refusal::ContextMismatch, next);
+        return Verdict::Refused(Refusal::ContextMismatch);
     };
-    judge_signature(store, lent, message, next)
+    judge_signature(store, lent, message)
 }
 
 // The octets of a message.
@@ -224,16 +183,15 @@ pub(crate) fn judge_message<S: Store, V: Verifier>(
     store: &mut S,
     lent: &Lent<'_, V>,
     octets: &[u8],
-    next: usize,
-) -> Answer
+) -> Verdict
     requires on { (S.state store.old).on ≡ true }
-    ensures answer { result ≡ first (message_questions (conditions_of V.known V.good lent.now) (S.state store.old) next octets.now) }
-    ensures leaves { Leaves (offered (message_questions (conditions_of V.known V.good lent.now) (S.state store.old) next octets.now)) (S.state store.old) result.verdict (S.state store.new) }
-    ensures memory { StoreMoves S.touches store.old result.verdict store.new }
+    ensures answer { (next : ℕ) → answered result next ≡ first (message_questions (conditions_of V.known V.good lent.now) (S.state store.old) next octets.now) }
+    ensures leaves { (next : ℕ) → Leaves (offered (message_questions (conditions_of V.known V.good lent.now) (S.state store.old) next octets.now)) (S.state store.old) result (S.state store.new) }
+    ensures memory { StoreMoves S.touches store.old result store.new }
 {
     let message = match read(octets) {
         Ok(message) => message,
-        Err(refusal) => return refuse(refusal, next),
+        Err(refusal) => return Verdict::Refused(refusal),
     };
-    judge_fields(store, lent, message, next)
+    judge_fields(store, lent, message)
 }

@@ -5,9 +5,9 @@ use Rattle.hosts.proofs.floors.listen_under.Goals as goal
 pub returns-in-Some : goal.returns-in-Some
 returns-in-Some g c =
     let e = c.in-Some.is in
-    let n = c.new-floored.ensures in
+    let n = c.new.ensures in
     let l = c.listen_over-floored.ensures in
-    let p = c.new-floored.result in
+    let p = c.new.result in
     let q = c.listen_over-floored.result.1 in
     let k = moved (λ x. x.below) (λ x. x.epoch) g.S.Store.touches c.listen_over-floored.result.0.verdict p q l.memory in
     let back : c.into_store.result ≡ q.below = c.into_store.ensures in

@@ -1,22 +1,23 @@
 use Rattle.std.proofs.Common.{length, sym, ap, ◌∙◌}
-use Rattle.judging.specs.Inputs.{inputs_by}
-use Rattle.hosts.proofs.Imaged.{supply-at, left, listened-at}
+use Rattle.judging.specs.Inputs.{inputs_of}
+use Rattle.hosts.proofs.Imaged.{left, power_at, supply-at, listened-at}
 use Rattle.hosts.proofs.images.listen_on.Goals as goal
 
 pub returns : goal.returns
 returns g c =
-    let i = inputs_by g.V.Verifier.known g.V.Verifier.good c.args.verifier.now c.args.burst.now c.args.listening c.args.catalog.now (length c.args.work.now) in
+    let i = inputs_of g.V.Verifier.known g.V.Verifier.good c.args.lent.now (length c.args.work.now) in
     let j = c.resume-journal.result in
     let k = c.listen_under-journal.result.1 in
     let a = c.listen_under-journal.result.0 in
-    let l = left (λ x. x.cells.image) (λ x. x.cells.on) (λ x. x.cells.charge) (λ x. x.cells.leaves) (λ x. x.last) c.args.supply.floor a.verdict j k c.listen_under-journal.ensures.memory in
+    let l = left (λ x. x.cells.image) (λ x. x.cells.power) (λ x. x.last) c.args.supply.floor a.verdict j k c.listen_under-journal.ensures.memory in
     let made = c.resume-journal.ensures.cells in
     let given = c.new-cells.ensures in
     let back = c.into_cells-cells.ensures in
-    let before = supply-at _ _ _ _ _ _ _ _ c.args.supply.floor (ap (λ x. x.on) made ∙ given.power) (ap (λ x. x.charge) made ∙ given.charge) (ap (λ x. x.leaves) made ∙ given.leaves) c.resume-journal.ensures.last in
-    let after =
-    supply-at _ _ _ _ _ _ _ _ c.args.supply.floor (sym (c.is_on.ensures ∙ ap (λ x. x.on) back)) (sym (c.charge.ensures ∙ ap (λ x. x.charge) back))
-    (l.same ∙ ap (λ x. x.leaves) made ∙ given.leaves) (sym c.written_last-last.ensures) in
+    let power = ap (λ x. x.power) made ∙ given.power in
+    let before = supply-at _ _ _ _ c.args.supply.floor power c.resume-journal.ensures.last in
+    let kept =
+    power_at _ _ (sym (c.is_on.ensures ∙ ap (λ x. x.power.on) back)) (sym (c.charge.ensures ∙ ap (λ x. x.power.charge) back)) (l.same ∙ ap (λ x. x.leaves) power) in
+    let after = supply-at _ _ _ _ c.args.supply.floor kept (sym c.written_last-last.ensures) in
     record {
       lender = c.into_image.ensures.lender ∙ ap (λ x. x.image.ghost_name) back ∙ l.lender ∙ ap (λ x. x.image.ghost_name) made ∙ given.lender;
       heard =

@@ -27,13 +27,13 @@ returns-in_default-hearing g c =
           ∙ ap (λ (a : Answer). laid (length c.args.work.now) (left_at a.verdict (message_heard i))) (sym c.unheard.ensures);
     }
 
-pub overflow_sub-size : goal.overflow_sub-size
-overflow_sub-size g c =
+pub overflow_sub-length : goal.overflow_sub-length
+overflow_sub-length g c =
     let i = inputs_of g.V.Verifier.known g.V.Verifier.good c.args.lent.now (length c.args.work.now) in
     (judged-frame i (g.S.Store.state c.args.store.now) c.in_default.ensures (sym c.in-true.ensures) c.hear-heard.result c.in-Frame.length c.hear-heard.ensures.answer c.in-Frame.is).fcs
 
-pub judge_frame-requires : goal.judge_frame-requires
-judge_frame-requires g c =
+pub judge_frame-verdict-requires : goal.judge_frame-verdict-requires
+judge_frame-verdict-requires g c =
     let i = inputs_of g.V.Verifier.known g.V.Verifier.good c.args.lent.now (length c.args.work.now) in
     let j = judged-frame i (g.S.Store.state c.args.store.now) c.in_default.ensures (sym c.in-true.ensures) c.hear-heard.result c.in-Frame.length c.hear-heard.ensures.answer c.in-Frame.is in
     record {
@@ -48,11 +48,11 @@ returns g c =
     let j = judged-frame i s c.in_default.ensures (sym c.in-true.ensures) c.hear-heard.result c.in-Frame.length c.hear-heard.ensures.answer c.in-Frame.is in
     let front = front-is _ c.hear-heard.new.work c.in-Frame.length (length c.args.work.now) c.hear-heard.ensures.work j.long j.fcs ∙ sym j.message in
     let asked = message_questions i.conditions s c.hear-heard.result.next in
-    let t = g.S.Store.state c.judge_frame.new.store in
-    let v = c.judge_frame.result.verdict in
+    let t = g.S.Store.state c.judge_frame-verdict.new.store in
+    let v = c.judge_frame-verdict.result in
     record {
-      answer = front-first asked _ _ front _ c.judge_frame.ensures.answer ∙ sym j.first;
-      leaves = subst (λ (o : Option Release). Leaves o s v t) (sym j.offered) (front-leaves asked _ _ front s t v c.judge_frame.ensures.leaves);
-      memory = c.judge_frame.ensures.memory;
-      work = front-left _ _ _ _ _ v front c.hear-heard.auto.work c.judge_frame.ensures.work;
+      answer = front-first asked _ _ front _ (c.judge_frame-verdict.ensures.answer c.hear-heard.result.next) ∙ sym j.first;
+      leaves = subst (λ (o : Option Release). Leaves o s v t) (sym j.offered) (front-leaves asked _ _ front s t v (c.judge_frame-verdict.ensures.leaves c.hear-heard.result.next));
+      memory = c.judge_frame-verdict.ensures.memory;
+      work = front-left _ _ _ _ _ v front c.hear-heard.auto.work c.judge_frame-verdict.ensures.work;
     }
