@@ -35,7 +35,7 @@ leaves-back Torn = refl
 
 pub supply-back : (p : Supply) → supply_in (supply_as p) ≡ p
 supply-back p =
-    λ i. record { on = flag-back p.on i; charge = p.charge; leaves = leaves-back p.leaves i; last = option_back p.last i; floor = option_back p.floor i }
+    λ i. record { power = record { on = flag-back p.power.on i; charge = p.power.charge; leaves = leaves-back p.power.leaves i }; last = option_back p.last i; floor = option_back p.floor i }
 
 -- a listening with a supply that was read and is left, told in numbers
 pub heard : (i : Inputs) (a : Answer) (m m' : List ℕ) (s s' : Supply) (p p' : OwacSupply) (told : OwacAnswer) (work : List ℕ) → s ≡ supply_in p → p' ≡ supply_as s' → told ≡ answer_as a → ListenedIn i m s a m' s'

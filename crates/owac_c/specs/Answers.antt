@@ -23,6 +23,10 @@ pair_in p = record { sid = p.sid; kid = p.kid }
 abbrev pub pair_as : Pair → OwacPair
 pair_as p = record { sid = p.sid; kid = p.kid }
 
+-- no pair
+abbrev pub no_pair : OwacPair
+no_pair = record { sid = replicate 16 0; kid = replicate 16 0 }
+
 -- a mark; all 0 where there is none
 abbrev pub mark_numbers : Mark → OwacMark
 mark_numbers m = record { epoch = m.position.epoch; counter = m.position.counter; hash = m.hash }
@@ -68,14 +72,14 @@ command_as Previous =
 command_as (Text target mode text) =
     record { kind = 20; priority = pos 0; weight = pos 0; state = 0; percent = 0; target = target; mode = mode; milliseconds = pos 0; track = 0; item = 0; time = absent; earliest = absent; until = absent; text = record { start = text.start; length = text.len } }
 
-abbrev no_command : OwacCommand
+abbrev pub no_command : OwacCommand
 no_command =
     record { kind = 0; priority = pos 0; weight = pos 0; state = 0; percent = 0; target = 0; mode = 0; milliseconds = pos 0; track = 0; item = 0; time = absent; earliest = absent; until = absent; text = nowhere }
 
 -- an answer that hands nothing out
 abbrev pub bare_as : ℕ → ℕ → ℕ → OwacAnswer
 bare_as kind refusal next =
-    record { kind = kind; refusal = refusal; next = next; length = 0; pair = record { sid = replicate 16 0; kid = replicate 16 0 }; mark = no_mark; command = no_command }
+    record { kind = kind; refusal = refusal; next = next; length = 0; pair = no_pair; mark = no_mark; command = no_command }
 
 -- a verdict and the next place: 0 quiet, 1 duplicate, 2 refused, 3 released
 abbrev pub verdict_as : Verdict → ℕ → OwacAnswer

@@ -34,10 +34,10 @@ leaves_as Torn = 2
 
 -- the supply that the host keeps, as it is read and as it is left
 abbrev pub supply_in : OwacSupply → Supply
-supply_in p = record { on = flag_in p.on; charge = p.charge; leaves = leaves_in p.leaves; last = option_in p.last; floor = option_in p.floor }
+supply_in p = record { power = record { on = flag_in p.on; charge = p.charge; leaves = leaves_in p.leaves }; last = option_in p.last; floor = option_in p.floor }
 
 abbrev pub supply_as : Supply → OwacSupply
-supply_as p = record { charge = p.charge; last = option_as p.last; floor = option_as p.floor; on = flag_as p.on; leaves = leaves_as p.leaves }
+supply_as p = record { charge = p.power.charge; last = option_as p.last; floor = option_as p.floor; on = flag_as p.power.on; leaves = leaves_as p.power.leaves }
 
 -- how the host listens
 abbrev pub listening_in : OwacListening → Listening

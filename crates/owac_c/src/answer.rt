@@ -1,4 +1,5 @@
 // What the calls answer, as plain numbers.
+// Kept: (a) kinds and refusals are numbers here, each struct with room for what any kind has, since C knows no enum with fields.
 use crate::host::{OwacMark, OwacOptional, OwacPair};
 
 // `answer` is 0 for a frame, 100 for quiet, or a refusal's number; `length` counts a frame's octets, its FCS among them.
@@ -20,7 +21,7 @@ pub struct WrittenBurst {
 
 // A part of the work buffer.
 #[repr(C)]
-#[derive(Clone, Copy)]
+#[derive(Clone, Copy, Default)]
 pub struct OwacSpan {
     pub start: usize,
     pub length: usize,
@@ -28,7 +29,7 @@ pub struct OwacSpan {
 
 // A command by its type's number, `kind`, with the arguments of its type; all others are 0 and not given.
 #[repr(C)]
-#[derive(Clone, Copy)]
+#[derive(Clone, Copy, Default)]
 pub struct OwacCommand {
     pub kind: u8,
     pub priority: i8,

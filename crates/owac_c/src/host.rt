@@ -1,8 +1,9 @@
 // What a host keeps and hands in, as plain numbers.
+// Kept: (a) flags, kinds and numbers that may be absent are plain octets here, since C hands in any octet and knows no enum.
 
 // A number that may be absent: `given` is 0 where it is, and any other octet says that `value` counts.
 #[repr(C)]
-#[derive(Clone, Copy)]
+#[derive(Clone, Copy, Default)]
 pub struct OwacOptional {
     pub value: u64,
     pub given: u8,
@@ -31,14 +32,14 @@ pub struct OwacListening {
 }
 
 #[repr(C)]
-#[derive(Clone, Copy)]
+#[derive(Clone, Copy, Default)]
 pub struct OwacPair {
     pub sid: [u8; 16],
     pub kid: [u8; 16],
 }
 
 #[repr(C)]
-#[derive(Clone, Copy)]
+#[derive(Clone, Copy, Default)]
 pub struct OwacMark {
     pub epoch: u64,
     pub counter: u64,

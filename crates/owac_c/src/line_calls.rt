@@ -9,7 +9,6 @@ use crate::answer::{HeardFrame, WrittenBurst};
 use line::burst::write;
 use line::check::fcs;
 use line::frame::hear;
-use line::heard::Hearing;
 
 // The FCS of a message.
 #[unsafe(no_mangle)]
@@ -25,13 +24,7 @@ pub extern "C" fn owac_write_burst(message: &[u8], burst: &mut [u8]) -> WrittenB
     ensures answer { result ≡ written_as (writing message.now (length burst.old)) }
     ensures output { Output message.now burst.old burst.new (writing message.now (length burst.old)) }
 {
-    match write(message, burst) {
-        Ok(count) => WrittenBurst { answer: 0, count },
-        Err(refusal) => WrittenBurst {
-            answer: refusal.number(),
-            count: 0,
-        },
-    }
+    write(message, burst).into()
 }
 
 // Hears the first frame at or after a place.
@@ -45,23 +38,5 @@ pub extern "C" fn owac_hear_frame(
     ensures answer { result ≡ heard_as (hears burst.now count start (length work.old)).answer }
     ensures work { work.new ≡ laid (length work.old) (hears burst.now count start (length work.old)).octets }
 {
-    let heard = hear(burst, count, start, work);
-    let next = heard.next;
-    match heard.hearing {
-        Hearing::Quiet => HeardFrame {
-            answer: 100,
-            next,
-            length: 0,
-        },
-        Hearing::Refused(refusal) => HeardFrame {
-            answer: refusal.number(),
-            next,
-            length: 0,
-        },
-        Hearing::Frame(length) => HeardFrame {
-            answer: 0,
-            next,
-            length,
-        },
-    }
+    hear(burst, count, start, work).into()
 }

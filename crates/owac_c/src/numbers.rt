@@ -1,90 +1,41 @@
 // What the host's numbers mean, and what is answered, as numbers.
+// Kept: (a) C reads and hands in numbers, so kinds, flags and refusals are numbers on its side of these conversions.
 ghost use Rattle.std.specs.Prelude.{◌≡◌};
+ghost use Rattle.owac_c.specs.Numbers.{heard_as, written_as};
 ghost use Rattle.owac_c.specs.Supplies.{option_in, option_as, supply_in, supply_as, listening_in, leaves_in, leaves_as};
 ghost use Rattle.owac_c.specs.Answers.{command_as, answer_as, mark_as, mark_numbers, pair_as, pair_in, bare_as, text_command};
 
-use crate::answer::{OwacAnswer, OwacCommand, OwacSpan};
+use crate::answer::{HeardFrame, OwacAnswer, OwacCommand, OwacSpan, WrittenBurst};
 use crate::host::{OwacListening, OwacMark, OwacOptional, OwacPair, OwacSupply};
+use answers::refusal::Refusal;
 use commands::types::Command;
 use hosts::supply::Supply;
 use items::types::Span;
 use judging::answer::{Answer, Listening, Verdict};
+use line::heard::{Heard, Hearing};
 use marks::mark::{CutLeaves, Mark, Pair};
+use marks::power::Power;
 
-const ABSENT: OwacOptional = OwacOptional { value: 0, given: 0 };
+impl From<OwacOptional> for Option<u64> {
+    ghost from_gives = { λ number read. read ≡ option_in number };
 
-const NO_COMMAND: OwacCommand = OwacCommand {
-    kind: 0,
-    priority: 0,
-    weight: 0,
-    state: 0,
-    percent: 0,
-    target: 0,
-    mode: 0,
-    milliseconds: 0,
-    track: 0,
-    item: 0,
-    time: ABSENT,
-    earliest: ABSENT,
-    until: ABSENT,
-    text: OwacSpan {
-        start: 0,
-        length: 0,
-    },
-};
-
-const NO_PAIR: OwacPair = OwacPair {
-    sid: [0; 16],
-    kid: [0; 16],
-};
-
-const NO_MARK: OwacMark = OwacMark {
-    epoch: 0,
-    counter: 0,
-    hash: [0; 32],
-};
-
-fn option_in(number: OwacOptional) -> Option<u64>
-    ensures { result ≡ option_in number }
-{
-    if number.given == 0 {
-        None
-    } else {
-        Some(number.value)
+    fn from(number: OwacOptional) -> Option<u64> {
+        (number.given != 0).then_some(number.value)
     }
 }
 
-fn option_as(number: Option<u64>) -> OwacOptional
-    ensures { result ≡ option_as number }
-{
-    match number {
-        None => ABSENT,
-        Some(value) => OwacOptional { value, given: 1 },
+impl From<Option<u64>> for OwacOptional {
+    ghost from_gives = { λ number told. told ≡ option_as number };
+
+    fn from(number: Option<u64>) -> OwacOptional {
+        match number {
+            None => OwacOptional::default(),
+            Some(value) => OwacOptional { value, given: 1 },
+        }
     }
 }
 
-fn place_in(number: OwacOptional) -> Option<usize>
-    ensures { result ≡ option_in number }
-{
-    if number.given == 0 {
-        None
-    } else {
-        Some(number.value as usize)
-    }
-}
-
-fn place_as(number: Option<usize>) -> OwacOptional
-    ensures { result ≡ option_as number }
-{
-    match number {
-        None => ABSENT,
-        Some(value) => OwacOptional {
-            value: value as u64,
-            given: 1,
-        },
-    }
-}
-
+// Kept: (d) neither an octet nor CutLeaves is this crate's, so no From can stand between them.
 fn leaves_in(number: u8) -> CutLeaves
     ensures { result ≡ leaves_in number }
 {
@@ -105,79 +56,92 @@ fn leaves_as(leaves: CutLeaves) -> u8
     }
 }
 
-// The supply that the host keeps.
-pub(crate) fn supply_in(kept: &OwacSupply) -> Supply
-    ensures { result ≡ supply_in kept.now }
-{
-    Supply {
-        on: kept.on != 0,
-        charge: kept.charge,
-        leaves: leaves_in(kept.leaves),
-        last: place_in(kept.last),
-        floor: option_in(kept.floor),
+impl From<&OwacSupply> for Supply {
+    ghost from_gives = { λ kept supply. supply ≡ supply_in kept.now };
+
+    fn from(kept: &OwacSupply) -> Supply {
+        let power = Power {
+            on: kept.on != 0,
+            charge: kept.charge,
+            leaves: leaves_in(kept.leaves),
+        };
+        Supply {
+            power,
+            last: Option::<u64>::from(kept.last).map(|place| place as usize),
+            floor: kept.floor.into(),
+        }
     }
 }
 
-// A supply for the host to keep.
-pub(crate) fn supply_as(supply: Supply) -> OwacSupply
-    ensures { result ≡ supply_as supply }
-{
-    OwacSupply {
-        charge: supply.charge,
-        last: place_as(supply.last),
-        floor: option_as(supply.floor),
-        on: if supply.on { 1 } else { 0 },
-        leaves: leaves_as(supply.leaves),
+impl From<Supply> for OwacSupply {
+    ghost from_gives = { λ supply kept. kept ≡ supply_as supply };
+
+    fn from(supply: Supply) -> OwacSupply {
+        OwacSupply {
+            charge: supply.power.charge,
+            last: supply.last.map(|place| place as u64).into(),
+            floor: supply.floor.into(),
+            on: u8::from(supply.power.on),
+            leaves: leaves_as(supply.power.leaves),
+        }
     }
 }
 
-// How the host listens.
-pub(crate) fn listening_in(given: &OwacListening) -> Listening
-    ensures { result ≡ listening_in given.now }
-{
-    Listening {
-        count: given.count,
-        start: given.start,
-        clock: given.clock,
-        suspect: given.suspect != 0,
+impl From<&OwacListening> for Listening {
+    ghost from_gives = { λ given listening. listening ≡ listening_in given.now };
+
+    fn from(given: &OwacListening) -> Listening {
+        Listening {
+            count: given.count,
+            start: given.start,
+            clock: given.clock,
+            suspect: given.suspect != 0,
+        }
     }
 }
 
-pub(crate) fn pair_in(given: &OwacPair) -> Pair
-    ensures { result ≡ pair_in given.now }
-{
-    Pair {
-        sid: given.sid,
-        kid: given.kid,
+impl From<&OwacPair> for Pair {
+    ghost from_gives = { λ given pair. pair ≡ pair_in given.now };
+
+    fn from(given: &OwacPair) -> Pair {
+        Pair {
+            sid: given.sid,
+            kid: given.kid,
+        }
     }
 }
 
-fn pair_as(pair: Pair) -> OwacPair
-    ensures { result ≡ pair_as pair }
-{
-    let sid = pair.sid;
-    let kid = pair.kid;
-    OwacPair { sid, kid }
+impl From<Pair> for OwacPair {
+    ghost from_gives = { λ pair told. told ≡ pair_as pair };
+
+    fn from(pair: Pair) -> OwacPair {
+        let Pair { sid, kid } = pair;
+        OwacPair { sid, kid }
+    }
 }
 
-fn mark_numbers(mark: Mark) -> OwacMark
-    ensures { result ≡ mark_numbers mark }
-{
-    let hash = mark.hash;
-    OwacMark {
-        epoch: mark.position.epoch,
-        counter: mark.position.counter,
-        hash,
+impl From<Mark> for OwacMark {
+    ghost from_gives = { λ mark told. told ≡ mark_numbers mark };
+
+    fn from(mark: Mark) -> OwacMark {
+        let Mark { position, hash } = mark;
+        OwacMark {
+            epoch: position.epoch,
+            counter: position.counter,
+            hash,
+        }
     }
 }
 
 // A mark, or all 0 where there is none.
-pub(crate) fn mark_as(found: Option<Mark>) -> OwacMark
-    ensures { result ≡ mark_as found }
-{
-    match found {
-        None => NO_MARK,
-        Some(mark) => mark_numbers(mark),
+impl From<Option<Mark>> for OwacMark {
+    ghost from_gives = { λ found told. told ≡ mark_as found };
+
+    fn from(found: Option<Mark>) -> OwacMark {
+        match found {
+            None => OwacMark::default(),
+            Some(mark) => mark.into(),
+        }
     }
 }
 
@@ -199,72 +163,69 @@ pub(crate) fn text_command(told: &OwacCommand) -> Command
     }
 }
 
-fn command_as(command: Command) -> OwacCommand
-    ensures { result ≡ command_as command }
-{
-    match command {
-        Command::Heartbeat { time } => OwacCommand {
-            kind: 0,
-            time: option_as(time),
-            ..NO_COMMAND
-        },
-        Command::Queue {
-            track,
-            priority,
-            earliest,
-            until,
-        } => OwacCommand {
-            kind: 1,
-            track,
-            priority,
-            earliest: option_as(earliest),
-            until: option_as(until),
-            ..NO_COMMAND
-        },
-        Command::Suggest { track, weight } => OwacCommand {
-            kind: 2,
-            track,
-            weight,
-            ..NO_COMMAND
-        },
-        Command::Remove { item } => OwacCommand {
-            kind: 3,
-            item,
-            ..NO_COMMAND
-        },
-        Command::State { state } => OwacCommand {
-            kind: 10,
-            state,
-            ..NO_COMMAND
-        },
-        Command::Seek { milliseconds } => OwacCommand {
-            kind: 11,
-            milliseconds,
-            ..NO_COMMAND
-        },
-        Command::Rate { percent } => OwacCommand {
-            kind: 12,
-            percent,
-            ..NO_COMMAND
-        },
-        Command::Next => OwacCommand {
-            kind: 13,
-            ..NO_COMMAND
-        },
-        Command::Previous => OwacCommand {
-            kind: 14,
-            ..NO_COMMAND
-        },
-        Command::Text { target, mode, text } => OwacCommand {
-            kind: 20,
-            target,
-            mode,
-            text: OwacSpan {
-                start: text.start,
-                length: text.len,
+impl From<Command> for OwacCommand {
+    ghost from_gives = { λ command told. told ≡ command_as command };
+
+    fn from(command: Command) -> OwacCommand {
+        let none = OwacCommand::default();
+        match command {
+            Command::Heartbeat { time } => OwacCommand {
+                kind: 0,
+                time: time.into(),
+                ..none
             },
-            ..NO_COMMAND
-        },
+            Command::Queue {
+                track,
+                priority,
+                earliest,
+                until,
+            } => OwacCommand {
+                kind: 1,
+                track,
+                priority,
+                earliest: earliest.into(),
+                until: until.into(),
+                ..none
+            },
+            Command::Suggest { track, weight } => OwacCommand {
+                kind: 2,
+                track,
+                weight,
+                ..none
+            },
+            Command::Remove { item } => OwacCommand {
+                kind: 3,
+                item,
+                ..none
+            },
+            Command::State { state } => OwacCommand {
+                kind: 10,
+                state,
+                ..none
+            },
+            Command::Seek { milliseconds } => OwacCommand {
+                kind: 11,
+                milliseconds,
+                ..none
+            },
+            Command::Rate { percent } => OwacCommand {
+                kind: 12,
+                percent,
+                ..none
+            },
+            Command::Next => OwacCommand { kind: 13, ..none },
+            Command::Previous => OwacCommand { kind: 14, ..none },
+            Command::Text { target, mode, text } => OwacCommand {
+                kind: 20,
+                target,
+                mode,
+                text: OwacSpan {
+                    start: text.start,
+                    length: text.len,
+                },
+                ..none
+            },
+        }
     }
 }
 
@@ -277,27 +238,68 @@ fn bare(kind: u8, refusal: u8, next: usize) -> OwacAnswer
         refusal,
         next,
         length: 0,
-        pair: NO_PAIR,
-        mark: NO_MARK,
-        command: NO_COMMAND,
+        pair: OwacPair::default(),
+        mark: OwacMark::default(),
+        command: OwacCommand::default(),
     }
 }
 
-pub(crate) fn answer_as(answer: Answer) -> OwacAnswer
-    ensures { result ≡ answer_as answer }
-{
-    match answer.verdict {
-        Verdict::Quiet => bare(0, 0, answer.next),
-        Verdict::Duplicate => bare(1, 0, answer.next),
-        Verdict::Refused(refusal) => bare(2, refusal.number(), answer.next),
-        Verdict::Released(release) => OwacAnswer {
-            kind: 3,
-            refusal: 0,
-            next: answer.next,
-            length: release.length,
-            pair: pair_as(release.pair),
-            mark: mark_numbers(release.mark),
-            command: command_as(release.command),
-        },
+impl From<Answer> for OwacAnswer {
+    ghost from_gives = { λ answer told. told ≡ answer_as answer };
+
+    fn from(answer: Answer) -> OwacAnswer {
+        match answer.verdict {
+            Verdict::Quiet => bare(0, 0, answer.next),
+            Verdict::Duplicate => bare(1, 0, answer.next),
+            Verdict::Refused(refusal) => bare(2, refusal.number(), answer.next),
+            Verdict::Released(release) => OwacAnswer {
+                kind: 3,
+                refusal: 0,
+                next: answer.next,
+                length: release.length,
+                pair: release.pair.into(),
+                mark: release.mark.into(),
+                command: release.command.into(),
+            },
+        }
+    }
+}
+
+impl From<Result<usize, Refusal>> for WrittenBurst {
+    ghost from_gives = { λ written told. told ≡ written_as written };
+
+    fn from(written: Result<usize, Refusal>) -> WrittenBurst {
+        match written {
+            Ok(count) => WrittenBurst { answer: 0, count },
+            Err(refusal) => WrittenBurst {
+                answer: refusal.number(),
+                count: 0,
+            },
+        }
+    }
+}
+
+impl From<Heard> for HeardFrame {
+    ghost from_gives = { λ heard told. told ≡ heard_as heard };
+
+    fn from(heard: Heard) -> HeardFrame {
+        let next = heard.next;
+        match heard.hearing {
+            Hearing::Quiet => HeardFrame {
+                answer: 100,
+                next,
+                length: 0,
+            },
+            Hearing::Refused(refusal) => HeardFrame {
+                answer: refusal.number(),
+                next,
+                length: 0,
+            },
+            Hearing::Frame(length) => HeardFrame {
+                answer: 0,
+                next,
+                length,
+            },
+        }
     }
 }

@@ -2,7 +2,7 @@
 ghost use Rattle.std.specs.Prelude.{◌≡◌, length};
 ghost use Rattle.verdicts.specs.Verdicts.{is_pinned, is_vouched};
 ghost use Rattle.verdicts.specs.Tags.{is_listed, is_tagged};
-ghost use Rattle.judging.specs.Inputs.{inputs_by};
+ghost use Rattle.judging.specs.Inputs.{inputs_by, inputs_of};
 ghost use Rattle.hosts.specs.Images.{image_state};
 ghost use Rattle.owac_c.specs.Supplies.{supply_in, listening_in};
 ghost use Rattle.owac_c.specs.Answers.{pair_in, mark_as, found_as};
@@ -10,38 +10,26 @@ ghost use Rattle.owac_c.specs.Calls.{Heard, Switched, text_in, TextsAreTold, pla
 
 use crate::answer::{OwacAnswer, OwacCommand};
 use crate::host::{OwacListening, OwacMark, OwacPair, OwacSupply};
-use crate::numbers::{
-    answer_as, listening_in, mark_as, pair_in, supply_as, supply_in, text_command,
-};
+use crate::numbers::text_command;
 use commands::text;
 use hosts::images::{listen_in, mark_in, switch_on};
+use hosts::supply::Supply;
+use judging::answer::Lent;
 use verdicts::{TagSheet, VerdictSheet, Verifier};
 
 // Listens by any verifier.
 fn listen_by<V: Verifier>(
     image: &mut [u8],
     supply: &mut OwacSupply,
-    verifier: &V,
-    burst: &[u8],
-    listening: &OwacListening,
-    catalog: &[u64],
+    lent: &Lent<'_, V>,
     work: &mut [u8],
-    answer: &mut OwacAnswer,
-)
-    ensures { Heard (inputs_by V.known V.good verifier.now burst.now (listening_in listening.now) catalog.now (length work.old)) image.old supply.old answer.new image.new supply.new work.new }
+) -> OwacAnswer
+    ensures { Heard (inputs_of V.known V.good lent.now (length work.old)) image.old supply.old result image.new supply.new work.new }
 {
-    let mut kept = supply_in(supply);
-    let heard = listen_in(
-        image,
-        &mut kept,
-        verifier,
-        burst,
-        listening_in(listening),
-        catalog,
-        work,
-    );
-    *supply = supply_as(kept);
-    *answer = answer_as(heard);
+    let mut kept = Supply::from(&*supply);
+    let heard = listen_in(image, &mut kept, lent, work);
+    *supply = kept.into();
+    heard.into()
 }
 
 // Listens by a verdict sheet.
@@ -58,10 +46,13 @@ pub extern "C" fn owac_listen_by_verdicts(
 )
     ensures { Heard (inputs_by is_pinned is_vouched sheet.now burst.now (listening_in listening.now) catalog.now (length work.old)) image.old supply.old answer.new image.new supply.new work.new }
 {
-    let verifier = VerdictSheet::new(sheet);
-    listen_by(
-        image, supply, &verifier, burst, listening, catalog, work, answer,
-    );
+    let lent = Lent {
+        verifier: &VerdictSheet::new(sheet),
+        burst,
+        listening: listening.into(),
+        catalog,
+    };
+    *answer = listen_by(image, supply, &lent, work);
 }
 
 // Listens by a tag sheet.
@@ -78,10 +69,13 @@ pub extern "C" fn owac_listen_by_tags(
 )
     ensures { Heard (inputs_by is_listed is_tagged sheet.now burst.now (listening_in listening.now) catalog.now (length work.old)) image.old supply.old answer.new image.new supply.new work.new }
 {
-    let verifier = TagSheet::new(sheet);
-    listen_by(
-        image, supply, &verifier, burst, listening, catalog, work, answer,
-    );
+    let lent = Lent {
+        verifier: &TagSheet::new(sheet),
+        burst,
+        listening: listening.into(),
+        catalog,
+    };
+    *answer = listen_by(image, supply, &lent, work);
 }
 
 // Switches power on for so many whole writes.
@@ -89,9 +83,9 @@ pub extern "C" fn owac_listen_by_tags(
 pub extern "C" fn owac_switch_on(supply: &mut OwacSupply, writes: u64)
     ensures { Switched supply.old writes supply.new }
 {
-    let mut kept = supply_in(supply);
+    let mut kept = Supply::from(&*supply);
     switch_on(&mut kept, writes);
-    *supply = supply_as(kept);
+    *supply = kept.into();
 }
 
 // Reads a pair's mark: 1, or 0 where it has none. The image stays as it is.
@@ -106,12 +100,9 @@ pub extern "C" fn owac_mark(
     ensures mark { mark.new ≡ mark_as ((image_state image.old (supply_in supply.now)).mark (pair_in pair.now)) }
     ensures image { image.new ≡ image.old }
 {
-    let found = mark_in(image, &supply_in(supply), pair_in(pair));
-    *mark = mark_as(found);
-    match found {
-        None => 0,
-        Some(_) => 1,
-    }
+    let found = mark_in(image, &supply.into(), pair.into());
+    *mark = found.into();
+    u8::from(found.is_some())
 }
 
 // Copies the octets to the front of a buffer that has room for them.

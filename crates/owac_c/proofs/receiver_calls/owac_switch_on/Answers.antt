@@ -7,5 +7,5 @@ use Rattle.owac_c.proofs.receiver_calls.owac_switch_on.Goals as goal
 
 pub returns : goal.returns
 returns c =
-    switched c.args.supply.now c.args.writes c.supply_as.result
-    (c.supply_as.ensures ∙ ap supply_as c.switch_on.ensures.supply ∙ ap (λ (p : Supply). supply_as (switched_on p c.args.writes)) c.supply_in-kept.ensures)
+    switched c.args.supply.now c.args.writes c.into.result
+    (c.into.ensures ∙ ap supply_as c.switch_on.ensures.supply ∙ ap (λ (p : Supply). supply_as (switched_on p c.args.writes)) c.from-kept.ensures)

@@ -1,0 +1,15 @@
+use Rattle.std.proofs.Common.{◌≡◌}
+use Rattle.owac_c.proofs.Zeros.{pair_zero, mark_zero, command_zero}
+use Rattle.owac_c.proofs.numbers.bare.Goals as goal
+
+pub returns : goal.returns
+returns c =
+    λ i. record {
+      kind = c.args.kind;
+      refusal = c.args.refusal;
+      next = c.args.next;
+      length = 0;
+      pair = pair_zero _ c.default.ensures i;
+      mark = mark_zero _ c.default-2.ensures i;
+      command = command_zero _ c.default-3.ensures i;
+    }
