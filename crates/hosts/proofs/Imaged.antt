@@ -1,5 +1,5 @@
 -- A journal in an image, from its store's facts to the image and its supply.
-use Rattle.std.proofs.Common.{◌≡◌, ℕ, Bool, true, false, List, Some, None, Option, refl, ap, ◌∙◌, subst}
+use Rattle.std.proofs.Common.{◌≡◌, ℕ, Bool, true, false, List, Some, None, Option, refl, ap, subst}
 use denote.MutBor.{MutBor}
 use Rattle.marks.specs.declared.power.Power.{Power}
 use Rattle.marks.specs.Device.{device_of}

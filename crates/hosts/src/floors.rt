@@ -16,11 +16,7 @@ use receiver::receiver::Receiver;
 use verdicts::Verifier;
 
 // Listens once over a store, and hands it back.
-fn listen_over<S: Store, V: Verifier>(
-    store: S,
-    lent: &Lent<'_, V>,
-    work: &mut [u8],
-) -> (Answer, S)
+fn listen_over<S: Store, V: Verifier>(store: S, lent: &Lent<'_, V>, work: &mut [u8]) -> (Answer, S)
     ensures goes { ListenGoesOn (inputs_of V.known V.good lent.now (length work.old)) (S.state store) result.0 (S.state result.1) }
     ensures memory { StoreMoves S.touches store result.0.verdict result.1 }
     ensures work { work.new ≡ laid (length work.old) (left_at result.0.verdict (message_heard (inputs_of V.known V.good lent.now (length work.old)))) }
@@ -32,6 +28,7 @@ fn listen_over<S: Store, V: Verifier>(
 }
 
 /// The same, under a floor of this epoch if there is one.
+// Kept: (d) a store and that store under a floor are two types, and no closure takes both: here and below each has its own arm.
 pub fn listen_under<S: Store, V: Verifier>(
     store: S,
     floor: Option<u64>,

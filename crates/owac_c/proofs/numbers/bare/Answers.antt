@@ -1,4 +1,3 @@
-use Rattle.std.proofs.Common.{◌≡◌}
 use Rattle.owac_c.proofs.Zeros.{pair_zero, mark_zero, command_zero}
 use Rattle.owac_c.proofs.numbers.bare.Goals as goal
 

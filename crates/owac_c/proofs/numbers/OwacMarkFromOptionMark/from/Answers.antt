@@ -1,4 +1,4 @@
-use Rattle.std.proofs.Common.{◌≡◌, Option, sym, ap, ◌∙◌}
+use Rattle.std.proofs.Common.{Option, sym, ap, ◌∙◌}
 use Rattle.marks.specs.declared.mark.Mark.{Mark}
 use Rattle.owac_c.specs.Answers.{mark_as}
 use Rattle.owac_c.proofs.Zeros.{mark_zero}
