@@ -71,7 +71,7 @@ impl<'a> Arguments<'a> {
     }
 
     // An unsigned number that may be absent.
-    // Kept: (d) `None` says here too that the argument is not as asked, and `Some(None)` that it is absent, which may be.
+    // Kept: `None` says here too that the argument is not as asked, and `Some(None)` that it is absent, which may be.
     #[tactic(auto, unfolding(crate::specs::Arguments::optional_in))]
     pub(crate) fn optional(&self, key: u64) -> Option<Option<u64>>
         ensures { result ≡ optional_in (source_of self.now) key }

@@ -2,7 +2,7 @@
 use items::types::Span;
 
 /// A track: its number, or a byte string in the octets.
-// Kept: (a) the rules list both kinds of track, and neither is a failure.
+// Kept: the rules list both kinds of track, and neither is a failure.
 #[derive(Clone, Copy)]
 pub enum Track {
     Number(u64),
@@ -10,7 +10,7 @@ pub enum Track {
 }
 
 /// What a message asks for. Strings are given by their place in the octets.
-// Kept: (a) state, target, mode and the reserved type are numbers, since `allow` may not ask more of its callers.
+// Kept: state, target, mode and the reserved type are numbers, since `allow` may not ask more of its callers.
 #[derive(Clone, Copy)]
 pub enum Request {
     Heartbeat {
@@ -50,7 +50,7 @@ pub enum Request {
 }
 
 /// A command that is released: its own arguments and no others, as numbers. The text is given by its place in the octets.
-// Kept: (a) the command record has one case of numbers for each command type.
+// Kept: the command record has one case of numbers for each command type.
 #[derive(Clone, Copy)]
 pub enum Command {
     Heartbeat {

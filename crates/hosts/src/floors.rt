@@ -28,7 +28,7 @@ fn listen_over<S: Store, V: Verifier>(store: S, lent: &Lent<'_, V>, work: &mut [
 }
 
 /// The same, under a floor of this epoch if there is one.
-// Kept: (d) a store and that store under a floor are two types, and no closure takes both: here and below each has its own arm.
+// Kept: a store and that store under a floor are two types, and no closure takes both: here and below each has its own arm.
 pub fn listen_under<S: Store, V: Verifier>(
     store: S,
     floor: Option<u64>,

@@ -64,7 +64,7 @@ impl<C: Cells> Journal<C> {
     pub fn source(&self, pair: Pair) -> Option<Source>
         ensures { result ≡ source_in (C.Cells.device self.now.cells).cells pair }
     {
-        // Kept: (d) cells are read by place, and what was found is changed where it changes.
+        // Kept: cells are read by place, and what was found is changed where it changes.
         let mut found: Option<Source> = None;
         for i in 0..self.cells.count() {
             if let Cell::Held(held) = self.cells.read(i) {

@@ -29,7 +29,7 @@ pub fn run<S: Store>(store: &mut S, calls: &[Call], replies: &mut [Reply]) -> us
     ensures spared { (q : Pair) → Spared q (take result calls.now) → (S.state store.new).mark q ≡ (S.state store.old).mark q }
 {
     let n = calls.len().min(replies.len());
-    // Kept: (c) the replies are written by place: of a loop over `iter_mut().zip(..)` no invariant can speak of them.
+    // Kept: the replies are written by place: of a loop over `iter_mut().zip(..)` no invariant can speak of them.
     for (i, call) in calls[..n].iter().enumerate() {
         replies[i] = carry_out(store, *call);
     }

@@ -5,7 +5,7 @@ use marks::mark::{Mark, Pair};
 
 /// How a burst is listened to: so many of its tones, from this one on, at this clock reading in Unix seconds, and whether
 /// the demodulator doubts it.
-// Kept: (a) tones lie eight to an octet, so their count stands beside the octets, and the rules refuse one that does not fit.
+// Kept: tones lie eight to an octet, so their count stands beside the octets, and the rules refuse one that does not fit.
 #[derive(Clone, Copy)]
 pub struct Listening {
     pub count: usize,
@@ -33,7 +33,7 @@ pub struct Release {
     pub command: Command,
 }
 
-// Kept: (a) the rules list these four answers by name.
+// Kept: the rules list these four answers by name.
 #[derive(Clone, Copy)]
 pub enum Verdict {
     /// No frame begins here.

@@ -20,7 +20,7 @@ use message::{Message, not_expired, not_too_far, read};
 use verdicts::{Transcript, Verifier};
 
 // The sender and its key.
-// Kept: (d) neither Pair nor View is this crate's, so no From can stand between them; Mark and View likewise.
+// Kept: neither Pair nor View is this crate's, so no From can stand between them; Mark and View likewise.
 fn pair_of(view: &View) -> Pair
     ensures { result ≡ pair_of view.now }
 {

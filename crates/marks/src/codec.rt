@@ -18,7 +18,7 @@ const HASH: usize = 49;
 
 pub(crate) const CELL_SIZE: usize = 81;
 
-// Kept: (d) a state is an octet of the format, matched once; any other octet reads as torn, so an enum would be `Cell` again.
+// Kept: a state is an octet of the format, matched once; any other octet reads as torn, so an enum would be `Cell` again.
 const BLANK: u8 = 0x00;
 
 const RECORD: u8 = 0x01;

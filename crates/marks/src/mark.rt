@@ -29,7 +29,7 @@ pub struct Record {
 }
 
 // What a cell reads as.
-// Kept: (a) the rules list these cases by name, as they do those of the three enums below.
+// Kept: the rules list these cases by name, as they do those of the three enums below.
 #[derive(Clone, Copy, PartialEq, Eq)]
 pub enum Cell {
     Blank,

@@ -5,7 +5,7 @@ ghost use Rattle.marks.specs.Positions.{before, Earlier, above, same_pair};
 use crate::mark::{Mark, Pair, Position};
 
 impl Position {
-    // Kept: (a) a public call, which states what `<` says of two positions.
+    // Kept: a public call, which states what `<` says of two positions.
     pub fn is_before(self, other: Position) -> bool
         ensures is { result ≡ before self other }
         ensures decides { Decides result (Earlier self other) }
@@ -22,7 +22,7 @@ impl Position {
 }
 
 impl Pair {
-    // Kept: (a) a public call, which states what `==` says of two pairs.
+    // Kept: a public call, which states what `==` says of two pairs.
     pub fn is_same(self, other: Pair) -> bool
         ensures is { result ≡ same_pair self other }
         ensures decides { Decides result (self ≡ other) }

@@ -5,7 +5,7 @@ ghost use Rattle.marks.specs.Supplies.{Spent, switched_on};
 use crate::mark::{CutLeaves, Written};
 
 // Whether power is on, how many whole writes it still lasts, and what a cut leaves in the cell being written.
-// Kept: (d) power that is off may have charge left, and both are told: an `Option` of the charge would lose it.
+// Kept: power that is off may have charge left, and both are told: an `Option` of the charge would lose it.
 #[derive(Clone, Copy, PartialEq, Eq)]
 pub struct Power {
     pub on: bool,

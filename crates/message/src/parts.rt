@@ -11,7 +11,7 @@ use items::{bytes_at, map_at, unsigned_at};
 const VERSION: u64 = 1;
 
 // The keys of the message map.
-// Kept: (d) a key, here and below, is only compared with the number that is read; of an enum each use would be a cast back, as `MidKey::Epoch as u64`.
+// Kept: a key, here and below, is only compared with the number that is read; of an enum each use would be a cast back, as `MidKey::Epoch as u64`.
 const V: u64 = 0;
 
 const PROFILE: u64 = 1;

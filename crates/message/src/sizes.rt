@@ -8,7 +8,7 @@ use items::types::Span;
 use items::{bytes_at, text_at};
 
 // Major types.
-// Kept: (d) three bits of an octet are matched once; an enum would need a conversion with the same three arms before that.
+// Kept: three bits of an octet are matched once; an enum would need a conversion with the same three arms before that.
 const BYTES: u8 = 2;
 
 const TEXT: u8 = 3;
@@ -66,7 +66,7 @@ fn next_head(octets: &[u8], place: usize) -> Option<usize>
 pub(crate) fn strings_fit(octets: &[u8]) -> bool
     ensures { result ≡ strings_fit message_items octets.now 0 }
 {
-    // Kept: (d) no index is counted: each head says where the next one stands, and the range only bounds how many there are.
+    // Kept: no index is counted: each head says where the next one stands, and the range only bounds how many there are.
     let mut place = 0;
     for _head in 0..ITEMS {
         if place >= octets.len() {

@@ -1,5 +1,5 @@
 // What the calls answer, as plain numbers.
-// Kept: (a) kinds and refusals are numbers here, each struct with room for what any kind has, since C knows no enum with fields.
+// Kept: kinds and refusals are numbers here, each struct with room for what any kind has, since C knows no enum with fields.
 use crate::host::{OwacMark, OwacOptional, OwacPair};
 
 // `answer` is 0 for a frame, 100 for quiet, or a refusal's number; `length` counts a frame's octets, its FCS among them.

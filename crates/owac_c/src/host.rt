@@ -1,5 +1,5 @@
 // What a host keeps and hands in, as plain numbers.
-// Kept: (a) flags, kinds and numbers that may be absent are plain octets here, since C hands in any octet and knows no enum.
+// Kept: flags, kinds and numbers that may be absent are plain octets here, since C hands in any octet and knows no enum.
 
 // A number that may be absent: `given` is 0 where it is, and any other octet says that `value` counts.
 #[repr(C)]

@@ -1,5 +1,5 @@
 // What the host's numbers mean, and what is answered, as numbers.
-// Kept: (a) C reads and hands in numbers, so kinds, flags and refusals are numbers on its side of these conversions.
+// Kept: C reads and hands in numbers, so kinds, flags and refusals are numbers on its side of these conversions.
 ghost use Rattle.std.specs.Prelude.{◌≡◌};
 ghost use Rattle.owac_c.specs.Numbers.{heard_as, written_as};
 ghost use Rattle.owac_c.specs.Supplies.{option_in, option_as, supply_in, supply_as, listening_in, leaves_in, leaves_as};
@@ -35,7 +35,7 @@ impl From<Option<u64>> for OwacOptional {
     }
 }
 
-// Kept: (d) neither an octet nor CutLeaves is this crate's, so no From can stand between them.
+// Kept: neither an octet nor CutLeaves is this crate's, so no From can stand between them.
 fn leaves_in(number: u8) -> CutLeaves
     ensures { result ≡ leaves_in number }
 {

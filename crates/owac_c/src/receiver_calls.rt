@@ -33,7 +33,7 @@ fn listen_by<V: Verifier>(
 }
 
 // Listens by a verdict sheet.
-// Kept: (a) C knows no generics, so each kind of sheet has a call of its own.
+// Kept: C knows no generics, so each kind of sheet has a call of its own.
 #[unsafe(no_mangle)]
 pub extern "C" fn owac_listen_by_verdicts(
     image: &mut [u8],

@@ -5,7 +5,7 @@ ghost use Rattle.timings.specs.Numbers.{found_as};
 use marks::mark::Mark;
 
 // `found` is 1 where the pair has a mark, else all are 0.
-// Kept: (a) the C interface has no `Option`.
+// Kept: the C interface has no `Option`.
 #[repr(C)]
 #[derive(Clone, Copy)]
 pub struct FoundMark {

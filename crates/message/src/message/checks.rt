@@ -14,7 +14,7 @@ use verdicts::Transcript;
 const PROFILE: u64 = 1;
 
 // The algs are 1, 2 and 3.
-// Kept: (d) a public view shows its alg as a number, and any other goes with 3: an enum would need a conversion with these arms, and a match after it.
+// Kept: a public view shows its alg as a number, and any other goes with 3: an enum would need a conversion with these arms, and a match after it.
 const ALG_1: u8 = 1;
 
 const ALG_2: u8 = 2;

@@ -19,7 +19,7 @@ pub(crate) fn rest(octets: &[u8], count: usize) -> &[u8]
 }
 
 // What the span holds.
-// Kept: (a) a public call takes a message with any spans: one that ends outside is cut at the end, where `Span::of` has nothing.
+// Kept: a public call takes a message with any spans: one that ends outside is cut at the end, where `Span::of` has nothing.
 pub(crate) fn slice(octets: &[u8], span: Span) -> &[u8]
     ensures { result.now ≡ held octets.now span }
 {
