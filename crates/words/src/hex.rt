@@ -62,6 +62,7 @@ fn push_digits(text: &mut String, octets: &[u8]) -> Result<(), AllocError>
 }
 
 /// The word for octets.
+#[tactic(auto, using(crate::proofs::Spelling::hex_back))]
 pub fn text(heap: Global, octets: &[u8]) -> Result<String, AllocError>
     ensures is { IfOk result (λ s. string_bytes s ≡ word_of octets.now) }
     ensures back { HexBack }
