@@ -61,6 +61,7 @@ pub struct TagSheet<'a> {
 
 impl<'a> TagSheet<'a> {
     /// A sheet over any octets; those behind the last whole row mean nothing.
+    #[tactic(auto, using(crate::proofs::Lengths::tagged_length))]
     pub fn new(octets: &'a [u8]) -> TagSheet<'a>
         ensures is { result.octets.now ≡ octets.now }
         ensures sixteen { TagsHave16Octets }
