@@ -37,10 +37,9 @@ pub fn run<S: Store, V: Verifier>(
     ensures { Ran S.state S.touches S.rests V.known V.good receiver.old.store buffer.old calls.now replies.old result replies.new receiver.new.store buffer.new }
 {
     let n = calls.len().min(replies.len());
-    // Kept: calls and replies are taken by place. After a `zip` with `iter_mut` a proof knows nothing of what was written, and
-    // with `enumerate` over the calls the step that adds one call did not close.
-    for i in 0..n {
-        replies[i] = carry_out(receiver, &calls[i], buffer);
+    // Kept: the replies are written by place. After a `zip` with `iter_mut` a proof knows nothing of what was written.
+    for (i, call) in calls[..n].iter().enumerate() {
+        replies[i] = carry_out(receiver, call, buffer);
     }
     n
 }
