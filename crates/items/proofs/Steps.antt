@@ -1,12 +1,11 @@
 -- How an item is read, step by step.
-use Rattle.std.proofs.Common.{◌≡◌, ℕ, zero, suc, ◌+◌, ◌-◌, ◌<◌, ◌≤◌, Bool, true, false, cond, ◌&&◌, eqb, leb, List, [], ◌∷◌, length, Some, None, Ok, Err, Option, Result, sym, refl, ap, ◌∙◌, subst, ⊎_elim, arith}
+use Rattle.std.proofs.Common.{◌≡◌, ℕ, zero, suc, ◌+◌, ◌-◌, ◌<◌, ◌≤◌, Bool, true, false, cond, ◌&&◌, eqb, leb, List, [], ◌∷◌, length, Some, None, Ok, Err, Option, Result, sym, refl, ap, ◌∙◌, subst, arith}
 use Rattle.text.specs.Table.{is_text}
-use Rattle.std.proofs.lemmas.Bool.Decides.{nat_tests, eqb_tells}
+use Rattle.std.proofs.lemmas.Bool.Decides.{nat_tests}
 use Rattle.items.specs.declared.types.Fault.{Fault}
 use Rattle.items.specs.declared.types.Fault.TheVariants.{Malformed}
-use Rattle.items.specs.declared.types.Head.{Head}
 use Rattle.items.specs.Keys.{span, judged}
-use Rattle.items.specs.Heads.{head_at, head_size, fault_at, after, part, skipped, text_read, Moved}
+use Rattle.items.specs.Heads.{Head, head_at, head_size, fault_at, after, part, skipped, text_read}
 use Rattle.items.specs.Reading.{Walk, move_to, also, items_of, judged_key, entries_of, simple, body_of, past_head, item_with, inside, item_of, array_items, map_entries, containers, start_at, read_of}
 use Rattle.items.specs.Walks.{Told}
 
@@ -74,9 +73,6 @@ module _ (inner : Bool → ℕ → Walk → Result Walk Fault) (os : List ℕ) (
   unfolding body_of
   body-other k is-not = grind (arith, nat_tests)
 
-pub not_simple : (h : Head) → (h.major ≡ 7 → h.shortest ≡ true → 20 ≤ h.argument → h.argument ≤ 22 → ⊥) → simple h ≡ false
-not_simple h none = grind (arith, nat_tests)
-
 module _ (d : ℕ) (os : List ℕ) (n : ℕ) (u : Walk) where
   pub inside-none : (is_map : Bool) → d ≡ 0 → inside d os is_map n u ≡ Err Malformed
   unfolding inside
@@ -90,76 +86,66 @@ module _ (d : ℕ) (os : List ℕ) (n : ℕ) (u : Walk) where
   unfolding inside item_of
   inside-map some = let e : d ≡ suc (d - 1) = omega arith in let P : ℕ → Type 0 = λ k. inside k os true n u ≡ entries_of (item_of (d - 1) os) os n map_entries [] u in subst P (sym e) refl
 
--- a container where none may lie, a tag, a float or another simple value
-pub body_refused : (d : ℕ) (os : List ℕ) (h : Head) (u : Walk) → 3 < h.major → (h.major ≡ 4 → d ≡ 0) → (h.major ≡ 5 → d ≡ 0) → simple h ≡ false → body_of (inside d os) os h u ≡ Err Malformed
-body_refused d os h u big array-shut map-shut is-not = ⊎_elim
-    (λ z. body-array (inside d os) os h u z.1 ∙ inside-none d os h.argument u false (array-shut z.1))
-    (λ z. ⊎_elim
-    (λ y. body_map (inside d os) os h u y.1 ∙ inside-none d os h.argument u true (map-shut y.1))
-    (λ y. let m = z.1 in let n = y.1 in body-other (inside d os) os h u (omega arith) is-not)
-    (eqb_tells h.major 5))
-    (eqb_tells h.major 4)
-
 -- what is left of an array at its i-th item
 module _ (f : Walk → Result Walk Fault) (os : List ℕ) (n room i : ℕ) (w : Walk) where
-  pub items-beyond : i < n → i ≡ room → items_of f os (n - i) (room - i) w ≡ Err (fault_at os w.place)
+  pub items_beyond : i < n → i ≡ room → items_of f os (n - i) (room - i) w ≡ Err (fault_at os w.place)
   unfolding items_of
-  items-beyond some over =
+  items_beyond some over =
       let e : n - i ≡ suc (n - (i + 1)) = omega arith in
       let z : room - i ≡ 0 = omega arith in
       rw (e, z)
 
-  pub items-done : n ≤ i → items_of f os (n - i) (room - i) w ≡ Ok w
+  pub items_done : n ≤ i → items_of f os (n - i) (room - i) w ≡ Ok w
   unfolding items_of
-  items-done done = let e : n - i ≡ 0 = omega arith in rw e
+  items_done done = let e : n - i ≡ 0 = omega arith in rw e
 
   module _ (some : i < n) (fits : i < room) where
-    items-one : items_of f os (n - i) (room - i) w ≡ after (f w) (items_of f os (n - (i + 1)) (room - (i + 1)))
+    items_one : items_of f os (n - i) (room - i) w ≡ after (f w) (items_of f os (n - (i + 1)) (room - (i + 1)))
     unfolding items_of
-    items-one =
+    items_one =
         let e : n - i ≡ suc (n - (i + 1)) = omega arith in
         let z : room - i ≡ suc (room - (i + 1)) = omega arith in
         rw (e, z)
 
     pub items_fails : (e : Fault) → f w ≡ Err e → items_of f os (n - i) (room - i) w ≡ Err e
-    items_fails e is = items-one ∙ rw is
+    items_fails e is = items_one ∙ rw is
 
-    pub items-on : (u : Walk) → f w ≡ Ok u → items_of f os (n - i) (room - i) w ≡ items_of f os (n - (i + 1)) (room - (i + 1)) u
-    items-on u is = items-one ∙ rw is
+    pub items_on : (u : Walk) → f w ≡ Ok u → items_of f os (n - i) (room - i) w ≡ items_of f os (n - (i + 1)) (room - (i + 1)) u
+    items_on u is = items_one ∙ rw is
 
 abbrev pub key_from : List ℕ → Walk → Walk → List ℕ
 key_from os w u = span os w.place u.place
 
 -- what is left of a map at its i-th entry
 module _ (f : Walk → Result Walk Fault) (os : List ℕ) (n room i : ℕ) (ks : List (List ℕ)) (w : Walk) where
-  pub entries-beyond : i < n → i ≡ room → entries_of f os (n - i) (room - i) ks w ≡ Err (fault_at os w.place)
+  pub entries_beyond : i < n → i ≡ room → entries_of f os (n - i) (room - i) ks w ≡ Err (fault_at os w.place)
   unfolding entries_of
-  entries-beyond some over =
+  entries_beyond some over =
       let e : n - i ≡ suc (n - (i + 1)) = omega arith in
       let z : room - i ≡ 0 = omega arith in
       rw (e, z)
 
-  pub entries-done : n ≤ i → entries_of f os (n - i) (room - i) ks w ≡ Ok w
+  pub entries_done : n ≤ i → entries_of f os (n - i) (room - i) ks w ≡ Ok w
   unfolding entries_of
-  entries-done done = let e : n - i ≡ 0 = omega arith in rw e
+  entries_done done = let e : n - i ≡ 0 = omega arith in rw e
 
   module _ (some : i < n) (fits : i < room) where
     abbrev later : List ℕ → Walk → Result Walk Fault
     later k = entries_of f os (n - (i + 1)) (room - (i + 1)) (k ∷ ks)
 
-    entries-one : entries_of f os (n - i) (room - i) ks w ≡ after (f w) (λ u. judged_key (judged ks (key_from os w u)) u (λ v. after (f v) (later (key_from os w u))))
+    entries_one : entries_of f os (n - i) (room - i) ks w ≡ after (f w) (λ u. judged_key (judged ks (key_from os w u)) u (λ v. after (f v) (later (key_from os w u))))
     unfolding entries_of
-    entries-one =
+    entries_one =
         let e : n - i ≡ suc (n - (i + 1)) = omega arith in
         let z : room - i ≡ suc (room - (i + 1)) = omega arith in
         rw (e, z)
 
     pub entries_fails : (e : Fault) → f w ≡ Err e → entries_of f os (n - i) (room - i) ks w ≡ Err e
-    entries_fails e is = entries-one ∙ rw is
+    entries_fails e is = entries_one ∙ rw is
 
     module _ (u : Walk) (is : f w ≡ Ok u) where
       entries-two : entries_of f os (n - i) (room - i) ks w ≡ judged_key (judged ks (key_from os w u)) u (λ v. after (f v) (later (key_from os w u)))
-      entries-two = entries-one ∙ rw is
+      entries-two = entries_one ∙ rw is
 
       pub entries_twice : None ≡ judged ks (key_from os w u) → entries_of f os (n - i) (room - i) ks w ≡ Err Malformed
       entries_twice j = entries-two ∙ ap (λ o. judged_key o u (λ v. after (f v) (later (key_from os w u)))) (sym j)
@@ -168,28 +154,15 @@ module _ (f : Walk → Result Walk Fault) (os : List ℕ) (n room i : ℕ) (ks :
         entries_three : entries_of f os (n - i) (room - i) ks w ≡ after (f (also u up)) (later (key_from os w u))
         entries_three = entries-two ∙ ap (λ o. judged_key o u (λ v. after (f v) (later (key_from os w u)))) (sym j)
 
-        pub entries-value_fails : (e : Fault) → f (also u up) ≡ Err e → entries_of f os (n - i) (room - i) ks w ≡ Err e
-        entries-value_fails e vs = entries_three ∙ ap (λ r. after r (later (key_from os w u))) vs
+        pub entries_value_fails : (e : Fault) → f (also u up) ≡ Err e → entries_of f os (n - i) (room - i) ks w ≡ Err e
+        entries_value_fails e vs = entries_three ∙ ap (λ r. after r (later (key_from os w u))) vs
 
-        pub entries-on : (v : Walk) → f (also u up) ≡ Ok v → entries_of f os (n - i) (room - i) ks w ≡ later (key_from os w u) v
-        entries-on v vs = entries_three ∙ ap (λ r. after r (later (key_from os w u))) vs
+        pub entries_on : (v : Walk) → f (also u up) ≡ Ok v → entries_of f os (n - i) (room - i) ks w ≡ later (key_from os w u) v
+        entries_on v vs = entries_three ∙ ap (λ r. after r (later (key_from os w u))) vs
 
 -- the same of equal octets
 pub entries_over : (d n room : ℕ) (w : Walk) {os os' : List ℕ} {r : Result Walk Fault} → os ≡ os' → entries_of (item_of d os) os n room [] w ≡ r → entries_of (item_of d os') os' n room [] w ≡ r
 entries_over d n room w same came = ap (λ o. entries_of (item_of d o) o n room [] w) (sym same) ∙ came
-
--- what is told of the inner reading is told of the whole, where the one comes to the other
-pub told-items : {X : Type 0} (r : Result X Fault) (d : ℕ) (os os' : List ℕ) (n : ℕ) (u w : Walk) {a : Result Walk Fault} → a ≡ items_of (item_of d os) os n array_items u → os' ≡ os → Told r (items_of (item_of d os') os' n array_items u) w → Told r a w
-told-items (Ok x) d os os' n u w g same m = g ∙ ap (λ o. items_of (item_of d o) o n array_items u) (sym same) ∙ m
-told-items (Err e) d os os' n u w g same m = g ∙ ap (λ o. items_of (item_of d o) o n array_items u) (sym same) ∙ m
-
-pub told_entries : {X : Type 0} (r : Result X Fault) (d : ℕ) (os os' : List ℕ) (n : ℕ) (u w : Walk) {a : Result Walk Fault} → a ≡ entries_of (item_of d os) os n map_entries [] u → os' ≡ os → Told r (entries_of (item_of d os') os' n map_entries [] u) w → Told r a w
-told_entries (Ok x) d os os' n u w g same m = g ∙ ap (λ o. entries_of (item_of d o) o n map_entries [] u) (sym same) ∙ m
-told_entries (Err e) d os os' n u w g same m = g ∙ ap (λ o. entries_of (item_of d o) o n map_entries [] u) (sym same) ∙ m
-
-pub told_moved : {X : Type 0} (r : Result X Fault) (came came' : Result ℕ Fault) (u : Walk) (q : ℕ) {a : Result Walk Fault} → a ≡ after came (λ p. Ok (move_to u p)) → came' ≡ came → Moved r came' q → Told r a (move_to u q)
-told_moved (Ok x) came came' u q g same m = g ∙ ap (λ c. after c (λ p. Ok (move_to u p))) (sym same ∙ m)
-told_moved (Err e) came came' u q g same m = g ∙ ap (λ c. after c (λ p. Ok (move_to u p))) (sym same ∙ m)
 
 -- an item does not go back
 abbrev Fwd : ℕ → Result Walk Fault → Type 0
@@ -276,15 +249,7 @@ item_forward d os w v is = subst (Fwd w.place) is (fwd_item (inside d os) os (fw
 
 -- the whole
 module _ (os : List ℕ) where
-  pub read_fails : (e : Fault) → item_of containers os (start_at 0) ≡ Err e → Err e ≡ read_of os
-  unfolding read_of
-  read_fails e is = rw is
-
   module _ (w : Walk) (is : item_of containers os (start_at 0) ≡ Ok w) where
-    pub read_behind : w.place < length os → Err Malformed ≡ read_of os
-    unfolding read_of
-    read_behind lt = rw is (grind (arith, nat_tests))
-
     pub read-ends : w.place ≡ length os → Ok (record { deterministic = w.deterministic }) ≡ read_of os
     unfolding read_of
     read-ends e = rw is (grind (arith, nat_tests))

@@ -2,9 +2,8 @@
 use Rattle.std.specs.Prelude.{ℕ, ◌+◌, ◌-◌, ◌^◌, cond, ◌&&◌, List, length, ℤ, pos, negsuc, Some, None, Ok, Err, Option, Result, ◌==◌, nat_le, nat_lt}
 use Rattle.text.specs.Table.{is_text}
 use Rattle.items.specs.declared.types.Fault.{Fault}
-use Rattle.items.specs.declared.types.Head.{Head}
 use Rattle.items.specs.declared.types.Span.{Span}
-use Rattle.items.specs.Heads.{head_at, head_size, part}
+use Rattle.items.specs.Heads.{Head, head_at, head_size, part}
 use Rattle.items.specs.Reading.{Walk, item_of, containers, start_at}
 
 -- go on behind what was read

@@ -1,9 +1,25 @@
 -- What the head of an item says, and how strings are passed.
-use Rattle.std.specs.Prelude.{◌≡◌, ℕ, zero, suc, ◌+◌, ◌*◌, ◌/◌, ◌%◌, true, cond, ◌&&◌, List, length, take, drop, Ok, Err, Result, ◌==◌, nat_le, nat_lt, slice_index}
+use Rattle.std.specs.Prelude.{◌≡◌, ℕ, zero, suc, ◌+◌, ◌*◌, ◌/◌, ◌%◌, Bool, true, cond, ◌&&◌, List, length, take, drop, Ok, Err, Result, ◌==◌, nat_le, nat_lt, slice_index}
 use Rattle.text.specs.Table.{is_text}
 use Rattle.items.specs.declared.types.Fault.{Fault}
 use Rattle.items.specs.declared.types.Fault.TheVariants.{Malformed, Indefinite}
-use Rattle.items.specs.declared.types.Head.{Head}
+use Rattle.items.specs.declared.types.Head.{Head as Got}
+use Rattle.items.specs.Majors.{number_of}
+
+-- what a head says: the number of its major type, its argument, and whether no shorter head has this argument
+pub record Head : Type 0 where
+  pub major : ℕ
+  pub argument : ℕ
+  pub shortest : Bool
+
+-- what the head that was read says
+abbrev pub says : Got → Head
+says h = record { major = number_of h.major; argument = h.argument; shortest = h.shortest }
+
+-- the same of a reading
+abbrev pub said : Result Got Fault → Result Head Fault
+said (Ok h) = Ok (says h)
+said (Err e) = Err e
 
 -- the number that n octets from p on write, the most significant first
 abbrev pub big_endian : List ℕ → ℕ → ℕ → ℕ

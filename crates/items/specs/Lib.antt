@@ -7,3 +7,4 @@ pub mod Lookup
 pub mod Fields
 pub mod Trees
 pub mod Spans
+pub mod Majors

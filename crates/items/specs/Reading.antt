@@ -2,10 +2,9 @@
 use Rattle.std.specs.Prelude.{ℕ, zero, suc, ◌+◌, ◌-◌, Bool, true, false, cond, ◌&&◌, List, [], ◌∷◌, length, Some, None, Ok, Err, Option, Result, ◌==◌, nat_le}
 use Rattle.items.specs.declared.types.Fault.{Fault}
 use Rattle.items.specs.declared.types.Fault.TheVariants.{Malformed}
-use Rattle.items.specs.declared.types.Head.{Head}
 use Rattle.items.specs.declared.types.Reading.{Reading}
 use Rattle.items.specs.Keys.{span, judged}
-use Rattle.items.specs.Heads.{head_at, head_size, fault_at, after, skipped, text_read}
+use Rattle.items.specs.Heads.{Head, head_at, head_size, fault_at, after, skipped, text_read}
 
 -- the limits: entries of a map, items of an array, items in all, containers around one another
 abbrev pub map_entries : ℕ

@@ -1,143 +1,113 @@
 // Reading one field at a place: what it is, and the place behind it. Only shortest heads are taken.
 ghost use Rattle.std.specs.Prelude.{◌≡◌, ◌+◌, ◌≤◌, length, IfSome};
+ghost use Rattle.items.specs.Majors.{number_of};
 ghost use Rattle.items.specs.Fields.{argument_at, unsigned_at, negative_at, integer_at, map_head_at, key_at, string_at, bytes_at, text_at, map_at};
 
-use crate::item::item;
-use crate::majors::{BYTES, MAP, NEGATIVE, TEXT, UNSIGNED};
-use crate::message::{DEPTH, ITEMS};
+use crate::item::Walker;
+use crate::message::DEPTH;
 use crate::reader::Reader;
-use crate::types::{Span, Tally};
+use crate::types::{Major, Span};
 use text::is_text;
 
-// The greatest argument of an integer.
-const GREATEST: u64 = 0x7FFF_FFFF_FFFF_FFFF;
-
 // The argument of a shortest head of this major type, and the place behind it.
-fn argument_at(octets: &[u8], place: usize, major: u8) -> Option<(u64, usize)>
-    ensures is { result ≡ argument_at major octets.now place }
+#[tactic(auto, unfolding(crate::specs::Fields::argument_at, crate::specs::Heads::head_at))]
+fn argument_at(octets: &[u8], place: usize, major: Major) -> Option<(u64, usize)>
+    ensures is { result ≡ argument_at (number_of major) octets.now place }
     ensures within { IfSome result (λ x. x.1 ≤ length octets.now) }
 {
     if place > octets.len() {
         return None;
     }
     let mut reader = Reader::at(octets, place);
-    let Ok(head) = reader.head() else {
-        return None;
-    };
-    if head.major == major && head.shortest {
-        return Some((head.argument, reader.place()));
-    }
-    None
+    let head = reader.head().ok()?;
+    (head.major == major && head.shortest).then_some((head.argument, reader.place()))
 }
 
 /// The unsigned number at the place.
 pub fn unsigned_at(octets: &[u8], place: usize) -> Option<(u64, usize)>
     ensures { result ≡ unsigned_at octets.now place }
 {
-    argument_at(octets, place, UNSIGNED)
+    argument_at(octets, place, Major::Unsigned)
 }
 
 /// The negative number -1 - n at the place, given as n.
 pub fn negative_at(octets: &[u8], place: usize) -> Option<(u64, usize)>
     ensures { result ≡ negative_at octets.now place }
 {
-    argument_at(octets, place, NEGATIVE)
+    argument_at(octets, place, Major::Negative)
 }
 
 /// The integer at the place, from -2^63 to 2^63 - 1.
+#[tactic(auto, unfolding(crate::specs::Fields::integer_at))]
 pub fn integer_at(octets: &[u8], place: usize) -> Option<(i64, usize)>
     ensures { result ≡ integer_at octets.now place }
 {
     if let Some((number, behind)) = unsigned_at(octets, place) {
-        if number > GREATEST {
-            return None;
-        }
-        return Some((number as i64, behind));
+        return Some((i64::try_from(number).ok()?, behind));
     }
     let (number, behind) = negative_at(octets, place)?;
-    if number > GREATEST {
-        return None;
-    }
-    Some((-1 - number as i64, behind))
+    Some((-1 - i64::try_from(number).ok()?, behind))
 }
 
 /// How many entries the map at the place announces, and where they start.
 pub fn map_head_at(octets: &[u8], place: usize) -> Option<(u64, usize)>
     ensures { result ≡ map_head_at octets.now place }
 {
-    argument_at(octets, place, MAP)
+    argument_at(octets, place, Major::Map)
 }
 
 /// The place behind the key, if it is this unsigned number.
+#[tactic(auto, unfolding(crate::specs::Fields::key_at))]
 pub fn key_at(octets: &[u8], place: usize, key: u64) -> Option<usize>
     ensures { result ≡ key_at key octets.now place }
 {
     let (number, behind) = unsigned_at(octets, place)?;
-    if number == key {
-        return Some(behind);
-    }
-    None
+    (number == key).then_some(behind)
 }
 
 // What the string of this major type holds.
-fn string_at(octets: &[u8], place: usize, major: u8) -> Option<(Span, usize)>
-    ensures is { result ≡ string_at major octets.now place }
+#[tactic(auto, unfolding(crate::specs::Fields::string_at, crate::specs::Spans::shown))]
+fn string_at(octets: &[u8], place: usize, major: Major) -> Option<(Span, usize)>
+    ensures is { result ≡ string_at (number_of major) octets.now place }
     ensures within { IfSome result (λ x. (x.0.start + x.0.len ≡ x.1) × (x.1 ≤ length octets.now)) }
 {
     let (len, start) = argument_at(octets, place, major)?;
-    if len > (octets.len() - start) as u64 {
-        return None;
-    }
-    Some((
-        Span {
-            start,
-            len: len as usize,
-        },
-        start + len as usize,
-    ))
+    let span = Span {
+        start,
+        len: len as usize,
+    };
+    span.of(octets)?;
+    Some((span, start + span.len))
 }
 
 /// What the byte string at the place holds.
 pub fn bytes_at(octets: &[u8], place: usize) -> Option<(Span, usize)>
     ensures { result ≡ bytes_at octets.now place }
 {
-    string_at(octets, place, BYTES)
+    string_at(octets, place, Major::Bytes)
 }
 
 /// What the text string at the place holds, which is UTF-8.
+#[tactic(auto, unfolding(crate::specs::Fields::text_at, crate::specs::Spans::shown))]
 pub fn text_at(octets: &[u8], place: usize) -> Option<(Span, usize)>
     ensures { result ≡ text_at octets.now place }
 {
-    let (span, behind) = string_at(octets, place, TEXT)?;
-    let start = span.start;
-    if is_text(&octets[start..behind]) {
-        return Some((span, behind));
-    }
-    None
+    let (span, behind) = string_at(octets, place, Major::Text)?;
+    is_text(span.of(octets)?).then_some((span, behind))
 }
 
 /// The whole map at the place, of anything, deterministic and within the limits of a message.
+#[tactic(auto, unfolding(crate::specs::Fields::map_at))]
 pub fn map_at(octets: &[u8], place: usize) -> Option<(Span, usize)>
     ensures { result ≡ map_at octets.now place }
 {
-    let (_, _) = map_head_at(octets, place)?;
-    let mut reader = Reader::at(octets, place);
-    let mut tally = Tally {
-        left: ITEMS,
-        deterministic: true,
+    map_head_at(octets, place)?;
+    let mut walker = Walker::new(Reader::at(octets, place));
+    walker.item(DEPTH).ok()?;
+    let behind = walker.reader().place();
+    let span = Span {
+        start: place,
+        len: behind - place,
     };
-    let Ok(()) = item(&mut reader, &mut tally, DEPTH) else {
-        return None;
-    };
-    if !tally.deterministic {
-        return None;
-    }
-    let behind = reader.place();
-    Some((
-        Span {
-            start: place,
-            len: behind - place,
-        },
-        behind,
-    ))
+    walker.deterministic().then_some((span, behind))
 }

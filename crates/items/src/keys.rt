@@ -4,8 +4,7 @@ ghost use Rattle.items.specs.Keys.{span, above, has, judged};
 ghost use Rattle.items.specs.Reading.{map_entries};
 ghost use Rattle.items.specs.Stored.{held, Kept, Added};
 
-use crate::compare::{below, same};
-use crate::types::{Keys, MOST_KEYS};
+use crate::types::{Keys, MAP_ENTRIES};
 
 pub(crate) fn no_keys(octets: &[u8]) -> Keys
     ensures kept { Kept octets.now result }
@@ -13,8 +12,8 @@ pub(crate) fn no_keys(octets: &[u8]) -> Keys
     ensures zero { result.count ≡ 0 }
 {
     Keys {
-        starts: [0; MOST_KEYS],
-        ends: [0; MOST_KEYS],
+        starts: [0; MAP_ENTRIES],
+        ends: [0; MAP_ENTRIES],
         count: 0,
         sorted: true,
     }
@@ -28,15 +27,16 @@ fn ascends(keys: &Keys, octets: &[u8], key: &[u8]) -> bool
         return true;
     }
     let last = keys.count - 1;
-    below(&octets[keys.starts[last]..keys.ends[last]], key)
+    &octets[keys.starts[last]..keys.ends[last]] < key
 }
 
 fn seen(keys: &Keys, octets: &[u8], key: &[u8]) -> bool
     requires { Kept octets.now keys.now }
     ensures { result ≡ has (held octets.now keys.now) key.now }
 {
+    // Kept: by number, since the two arrays of `Keys` are read side by side.
     for i in 0..keys.count {
-        if same(&octets[keys.starts[i]..keys.ends[i]], key) {
+        if &octets[keys.starts[i]..keys.ends[i]] == key {
             return true;
         }
     }
@@ -54,10 +54,8 @@ pub(crate) fn add(keys: &mut Keys, octets: &[u8], start: usize, end: usize) -> O
     let key = &octets[start..end];
     let up = ascends(keys, octets, key);
     let sorted = keys.sorted & up;
-    if !sorted {
-        if seen(keys, octets, key) {
-            return None;
-        }
+    if !sorted && seen(keys, octets, key) {
+        return None;
     }
     let count = keys.count;
     keys.starts[count] = start;

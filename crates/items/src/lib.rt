@@ -1,11 +1,9 @@
 // CBOR items as the protocol restricts them: reading a whole message, looking up a key, reading a field at its place.
 #![tactic(auto)]
 
-mod compare;
 pub mod fields;
 mod item;
 mod keys;
-mod majors;
 mod map;
 mod message;
 mod reader;

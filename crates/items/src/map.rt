@@ -1,14 +1,14 @@
 // Looking up a key in the map at a place. The place is put back on every way out.
 ghost use Rattle.std.specs.Prelude.{◌≡◌, ◌≤◌, length, IfOk};
-ghost use Rattle.items.specs.Heads.{Moved};
 ghost use Rattle.items.specs.Lookup.{passed, entry_at, lookup_of};
-ghost use Rattle.items.specs.Walks.{place_of};
+ghost use Rattle.items.specs.Walks.{placed};
+ghost use Rattle.std.specs.ControlFlow.{ForContinue};
 
-use crate::item::item;
-use crate::majors::{MAP, UNSIGNED};
-use crate::message::{DEPTH, ITEMS};
+use crate::item::Walker;
+use crate::message::DEPTH;
 use crate::reader::Reader;
-use crate::types::{Entry, Fault, MAP_ENTRIES, Tally};
+use crate::types::{Fault, MAP_ENTRIES, Major};
+use std::ops::ControlFlow;
 
 // Puts the place back when it goes.
 struct PlaceGuard<'p> {
@@ -36,36 +36,34 @@ impl Drop for PlaceGuard<'_> {
     }
 }
 
-// Moves the reader past the item at its place.
-fn pass(reader: &mut Reader<'_>) -> Result<(), Fault>
-    ensures octets { reader.new.octets.now ≡ reader.old.octets.now }
-    ensures moved { Moved result (passed reader.old.octets.now reader.old.place) reader.new.place }
+// The reader behind the item at its place.
+#[tactic(auto, unfolding(crate::specs::Lookup::passed))]
+fn pass(reader: Reader<'_>) -> Result<Reader<'_>, Fault>
+    ensures octets { IfOk result (λ r. r.octets.now ≡ reader.entry.octets.now) }
+    ensures place { placed result ≡ passed reader.entry.octets.now reader.entry.place }
 {
-    let mut tally = Tally {
-        left: ITEMS,
-        deterministic: true,
-    };
-    item(reader, &mut tally, DEPTH - 1)
+    let mut walker = Walker::new(reader);
+    walker.item(DEPTH - 1)?;
+    Ok(walker.reader())
 }
 
-// The entry at the reader's place: where the value of this key starts, or where the next entry does.
-fn entry(reader: Reader<'_>, key: u64) -> Result<Entry, Fault>
+// The entry at the reader's place. Breaks where the value of this key starts; else the next entry continues.
+#[tactic(auto, unfolding(crate::specs::Lookup::entry_at))]
+fn entry(reader: Reader<'_>, key: u64) -> Result<ControlFlow<usize, usize>, Fault>
     ensures is { result ≡ entry_at reader.entry.octets.now key reader.entry.place }
-    ensures within { IfOk result (λ e. place_of e ≤ length reader.entry.octets.now) }
+    ensures within { IfOk result (λ e. ForContinue e (λ place. place ≤ length reader.entry.octets.now)) }
 {
     let mut ahead = reader;
     let head = ahead.head()?;
-    if head.major == UNSIGNED && head.argument == key {
-        return Ok(Entry::Value(ahead.place()));
+    if head.major == Major::Unsigned && head.argument == key {
+        return Ok(ControlFlow::Break(ahead.place()));
     }
-    let mut walk = reader;
-    pass(&mut walk)?;
-    pass(&mut walk)?;
-    Ok(Entry::Next(walk.place()))
+    Ok(ControlFlow::Continue(pass(pass(reader)?)?.place()))
 }
 
 /// Where the value of the first entry with this unsigned key starts, in the map at the place.
 /// `None` where the map has no such key. Only the entries before the key are read.
+#[tactic(auto, unfolding(crate::specs::Lookup::lookup_of, crate::specs::Heads::head_at))]
 pub fn lookup(octets: &[u8], place: &mut usize, key: u64) -> Result<Option<usize>, Fault>
     ensures back { place.new ≡ place.old }
     ensures is { result ≡ lookup_of octets.now place.old key }
@@ -77,17 +75,17 @@ pub fn lookup(octets: &[u8], place: &mut usize, key: u64) -> Result<Option<usize
     let mut reader = Reader::at(octets, *guard.place);
     let head = reader.head()?;
     *guard.place = reader.place();
-    if head.major != MAP {
+    if head.major != Major::Map {
         return Err(Fault::Malformed);
     }
     for i in 0..head.argument {
         let reader = Reader::at(octets, *guard.place);
-        if i == MAP_ENTRIES {
+        if i == MAP_ENTRIES as u64 {
             return Err(reader.fault());
         }
         match entry(reader, key)? {
-            Entry::Value(at) => return Ok(Some(at)),
-            Entry::Next(at) => *guard.place = at,
+            ControlFlow::Break(at) => return Ok(Some(at)),
+            ControlFlow::Continue(at) => *guard.place = at,
         }
     }
     Ok(None)

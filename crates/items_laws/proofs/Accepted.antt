@@ -7,9 +7,8 @@ use Rattle.std.proofs.str.Laws.{order}
 use Rattle.text.specs.Table.{is_text}
 use Rattle.items.specs.declared.types.Fault.{Fault}
 use Rattle.items.specs.declared.types.Fault.TheVariants.{Malformed, Indefinite}
-use Rattle.items.specs.declared.types.Head.{Head}
 use Rattle.items.specs.Keys.{span, above, has, judged}
-use Rattle.items.specs.Heads.{big_endian, width, least, long_head, head_from, head_at, head_size, fault_at, after, part, skipped, text_read}
+use Rattle.items.specs.Heads.{Head, big_endian, width, least, long_head, head_from, head_at, head_size, fault_at, after, part, skipped, text_read}
 use Rattle.items.specs.Reading.{Walk, move_to, also, items_of, judged_key, entries_of, simple, body_of, inside, item_of, array_items, map_entries}
 use Rattle.items.specs.Trees.{octets_of, head_of, Item, unsigned, negative, bytes, text, array, map, simple_false, simple_true, simple_null, Items, no_items, next_item, Entries, no_entries, next_entry, array_size, map_size, encoding, items_encoding, entries_encoding, total, items_total, entries_total, ascending, items_ascending, entries_ascending, Within, ItemsWithin, EntriesWithin, At}
 use Rattle.items.proofs.Steps.{item_none, item_no_head, item_goes, body-number, body_bytes, body-text, body-array, body_map, body-simple, body-other, inside-none, key_from, skip_fits, skip_short, text-fits, text_bad, text-short}

@@ -3,9 +3,8 @@ use Rattle.std.proofs.Common.{◌≡◌, ℕ, zero, suc, ◌+◌, ◌-◌, ◌�
 use Rattle.std.proofs.lemmas.Bool.{and_parts}
 use Rattle.text.specs.Table.{is_text}
 use Rattle.items.specs.declared.types.Fault.{Fault}
-use Rattle.items.specs.declared.types.Head.{Head}
 use Rattle.items.specs.Keys.{span, above, has, chain, judged}
-use Rattle.items.specs.Heads.{after, part}
+use Rattle.items.specs.Heads.{Head, after, part}
 use Rattle.items.specs.Reading.{Walk, move_to, also, items_of, judged_key, entries_of, body_of, inside, item_of, array_items, map_entries}
 use Rattle.items.specs.Trees.{Item, unsigned, negative, bytes, text, array, map, simple_false, simple_true, simple_null, Items, no_items, next_item, Entries, no_entries, next_entry, head_of, array_size, map_size, encoding, items_encoding, entries_encoding, total, items_total, entries_total, ascending, items_ascending, entries_ascending, Within, ItemsWithin, EntriesWithin, At}
 use Rattle.items.proofs.Chains.{chain-new}

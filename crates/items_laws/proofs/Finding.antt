@@ -1,9 +1,8 @@
 -- A lookup in a map that is encoded answers where the key's value is encoded.
-use Rattle.std.proofs.Common.{◌≡◌, ℕ, zero, suc, ◌+◌, ◌≤◌, Bool, true, false, cond, eqb, List, [], ◌∷◌, ◌++◌, length, Some, Ok, Option, Result, sym, refl, ap, ◌∙◌, subst, arith}
+use Rattle.std.proofs.Common.{ControlFlow, ◌≡◌, ℕ, zero, suc, ◌+◌, ◌≤◌, Bool, true, false, cond, eqb, List, [], ◌∷◌, ◌++◌, length, Some, Ok, Option, Result, sym, refl, ap, ◌∙◌, subst, arith}
 use Rattle.std.proofs.lemmas.Bool.{and_parts, true≢false}
 use Rattle.std.proofs.lemmas.Bool.Decides.{nat_tests}
 use Rattle.items.specs.declared.types.Fault.{Fault}
-use Rattle.items.specs.declared.types.Entry.{Entry}
 use Rattle.items.specs.Keys.{above}
 use Rattle.items.specs.Heads.{head_size}
 use Rattle.items.specs.Reading.{message_items, map_entries}
@@ -47,7 +46,7 @@ pub pass_back : (t : Item) (os : List ℕ) (p : ℕ) → Within t 31 → total t
 unfolding passed
 pass_back t os p fits few up a = let e = item_back t os p 31 message_items true fits few up a in rw e
 
-seek-one : (os : List ℕ) (n room p : ℕ) (wanted : ℕ) (e : Entry) → Ok e ≡ entry_at os wanted p → seek os wanted (suc n) (suc room) p ≡ onward (seek os wanted n room) e
+seek-one : (os : List ℕ) (n room p : ℕ) (wanted : ℕ) (e : ControlFlow ℕ ℕ) → Ok e ≡ entry_at os wanted p → seek os wanted (suc n) (suc room) p ≡ onward (seek os wanted n room) e
 unfolding seek
 seek-one os n room p wanted e is = rw (sym is)
 

@@ -4,9 +4,8 @@ use Rattle.std.proofs.lemmas.Bool.{and_parts}
 use Rattle.std.proofs.lemmas.Bool.Decides.{nat_tests}
 use Rattle.text.specs.Table.{is_text}
 use Rattle.items.specs.declared.types.Fault.{Fault}
-use Rattle.items.specs.declared.types.Head.{Head}
 use Rattle.items.specs.declared.types.Span.{Span}
-use Rattle.items.specs.Heads.{head_at, head_size, part}
+use Rattle.items.specs.Heads.{Head, head_at, head_size, part}
 use Rattle.items.specs.Reading.{Walk, item_of, containers, message_items, start_at}
 use Rattle.items.specs.Fields.{bind, picked, argument_at, either_sign, integer_at, key_at, string_at, text_at, closed, map_at}
 use Rattle.items.specs.Trees.{head_of, Item, text, map, Entries, map_size, encoding, entries_encoding, total, Within, Canonical, At, Runs}

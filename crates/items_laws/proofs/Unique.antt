@@ -1,8 +1,7 @@
 -- No two trees within the limits have one encoding.
 use Rattle.std.proofs.Common.{◌≡◌, ℕ, ◌+◌, ◌-◌, true, cond, eqb, List, [], ◌++◌, length, get_or, Ok, Result, sym, refl, ap, ◌∙◌, subst, zero-add, arith}
 use Rattle.items.specs.declared.types.Fault.{Fault}
-use Rattle.items.specs.declared.types.Head.{Head}
-use Rattle.items.specs.Heads.{part}
+use Rattle.items.specs.Heads.{Head, part}
 use Rattle.items.specs.Trees.{head_of, Item, unsigned, negative, bytes, text, array, map, simple_false, simple_true, simple_null, Items, no_items, next_item, Entries, no_entries, next_entry, array_size, map_size, encoding, items_encoding, entries_encoding, Within, ItemsWithin, EntriesWithin, At}
 use Rattle.items_laws.proofs.Written.{at_part, at_left, at_right, Reads, short, head-back}
 

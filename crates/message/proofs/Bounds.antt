@@ -6,8 +6,7 @@ use Rattle.std.proofs.lemmas.Option.{cond_some, same_Some}
 use Rattle.items.specs.declared.types.Span.{Span}
 use Rattle.items.specs.Heads.{part}
 use Rattle.items.specs.declared.types.Fault.{Fault}
-use Rattle.items.specs.declared.types.Head.{Head}
-use Rattle.items.specs.Heads.{head_at, head_from, long_head, head_size, width}
+use Rattle.items.specs.Heads.{Head, head_at, head_from, long_head, head_size, width}
 use Rattle.items.specs.Spans.{shown}
 use Rattle.items.specs.Fields.{bind, picked, argument_at, key_at, string_at}
 use Rattle.message.specs.declared.entries.Entries.{Entries}

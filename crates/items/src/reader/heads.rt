@@ -1,9 +1,9 @@
 // Reading a head, and what lies behind the head of a string.
-ghost use Rattle.std.specs.Prelude.{◌≡◌, ◌+◌, ◌-◌, ◌*◌, ◌<◌, ◌≤◌, length, MatchResult};
-ghost use Rattle.items.specs.Heads.{big_endian, width, least, fault_at, head_at, head_size, Moved, skipped, text_read};
+ghost use Rattle.std.specs.Prelude.{◌≡◌, ◌+◌, ◌-◌, ◌*◌, ◌<◌, ◌≤◌, length, IfOk, MatchResult};
+ghost use Rattle.items.specs.Heads.{big_endian, width, least, fault_at, head_at, said, head_size, part, Moved, skipped, text_read};
 
 use super::Reader;
-use crate::types::{Fault, Head};
+use crate::types::{Fault, Head, Major, Span};
 use text::is_text;
 
 // Additional information: below `ONE_OCTET` it is the argument itself, from `RESERVED` on it is none.
@@ -23,8 +23,8 @@ fn big_endian(octets: &[u8], at: usize, count: usize) -> u64
     ensures { result ≡ big_endian octets.now at count }
 {
     let mut value: u64 = 0;
-    for i in 0..count {
-        value = value * 256 + octets[at + i] as u64;
+    for &octet in &octets[at..at + count] {
+        value = value * 256 + octet as u64;
     }
     value
 }
@@ -55,13 +55,6 @@ fn least_of(info: u8) -> u64
 }
 
 impl<'a> Reader<'a> {
-    pub(crate) fn new(octets: &'a [u8]) -> Reader<'a>
-        ensures octets { result.octets.now ≡ octets.now }
-        ensures place { result.place ≡ 0 }
-    {
-        Reader { octets, place: 0 }
-    }
-
     pub(crate) fn at(octets: &'a [u8], place: usize) -> Reader<'a>
         requires { place ≤ length octets.now }
         ensures octets { result.octets.now ≡ octets.now }
@@ -84,30 +77,48 @@ impl<'a> Reader<'a> {
     }
 
     // The fault of a head that may not stand here, whatever it is.
+    #[tactic(auto, unfolding(crate::specs::Heads::fault_at))]
     pub(crate) fn fault(&self) -> Fault
         ensures { result ≡ fault_at self.now.octets.now self.now.place }
     {
-        if self.place < self.octets.len() && self.octets[self.place] % 32 == INDEFINITE {
+        if self
+            .octets
+            .get(self.place)
+            .is_some_and(|first| *first % 32 == INDEFINITE)
+        {
             Fault::Indefinite
         } else {
             Fault::Malformed
         }
     }
 
+    // The next `count` octets. Moves the place past them.
+    #[tactic(auto, unfolding(crate::specs::Heads::skipped, crate::specs::Spans::shown))]
+    fn take(&mut self, count: u64) -> Result<&'a [u8], Fault>
+        ensures octets { self.new.octets.now ≡ self.old.octets.now }
+        ensures taken { IfOk result (λ r. r.now ≡ part self.old.octets.now self.old.place count) }
+        ensures moved { Moved result (skipped self.old.octets.now self.old.place count) self.new.place }
+    {
+        let span = Span {
+            start: self.place,
+            len: count as usize,
+        };
+        let taken = span.of(self.octets).ok_or(Fault::Malformed)?;
+        self.place += span.len;
+        Ok(taken)
+    }
+
     // Moves the place past `count` octets of text.
+    #[tactic(auto, unfolding(crate::specs::Heads::text_read, crate::specs::Heads::skipped))]
     pub(crate) fn text(&mut self, count: u64) -> Result<(), Fault>
         ensures octets { self.new.octets.now ≡ self.old.octets.now }
         ensures moved { Moved result (text_read self.old.octets.now self.old.place count) self.new.place }
     {
-        if count > (self.octets.len() - self.place) as u64 {
-            return Err(Fault::Malformed);
+        if is_text(self.take(count)?) {
+            Ok(())
+        } else {
+            Err(Fault::Malformed)
         }
-        let end = self.place + count as usize;
-        if !is_text(&self.octets[self.place..end]) {
-            return Err(Fault::Malformed);
-        }
-        self.place = end;
-        Ok(())
     }
 
     // Moves the place on by `count` octets.
@@ -115,24 +126,22 @@ impl<'a> Reader<'a> {
         ensures octets { self.new.octets.now ≡ self.old.octets.now }
         ensures moved { Moved result (skipped self.old.octets.now self.old.place count) self.new.place }
     {
-        if count > (self.octets.len() - self.place) as u64 {
-            return Err(Fault::Malformed);
-        }
-        self.place += count as usize;
+        self.take(count)?;
         Ok(())
     }
 
     // Reads the head at the place, and moves the place past it.
+    #[tactic(auto, unfolding(crate::specs::Heads::head_at, crate::specs::Heads::head_from, crate::specs::Heads::long_head, crate::specs::Heads::head_size))]
     pub(crate) fn head(&mut self) -> Result<Head, Fault>
         ensures octets { self.new.octets.now ≡ self.old.octets.now }
-        ensures is { result ≡ head_at self.old.octets.now self.old.place }
+        ensures is { said result ≡ head_at self.old.octets.now self.old.place }
         ensures moved { MatchResult result (λ _. self.new.place ≡ self.old.place + head_size self.old.octets.now self.old.place) (λ _. self.new.place ≡ self.old.place) }
     {
         if self.place == self.octets.len() {
             return Err(Fault::Malformed);
         }
         let first = self.octets[self.place];
-        let major = first / 32;
+        let major = Major::of(first);
         let info = first % 32;
         if info < ONE_OCTET {
             self.place += 1;

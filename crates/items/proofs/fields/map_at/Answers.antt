@@ -1,40 +1,21 @@
-use Rattle.std.proofs.Common.{Ok, Err, sym, ◌∙◌, arith, rules}
-use Rattle.items.specs.Reading.{Walk, item_of, containers, start_at}
-use Rattle.items.specs.Walks.{walk}
-use Rattle.items.specs.Fields.{map_at}
+use Rattle.std.proofs.Common.{◌≡◌, true, Ok, Err, Result, ap, arith}
+use Rattle.std.proofs.lemmas.Bool.{true≢false}
+use Rattle.std.specs.Result.{is_ok}
+use Rattle.items.specs.declared.types.Fault.{Fault}
+use Rattle.items.specs.Reading.{Walk}
+use Rattle.items.specs.Walks.{Told}
 use Rattle.items.proofs.Steps.{item_forward}
-use Rattle.items.proofs.Picks.{pick_in, map_on, closed_some, closed_none}
+use Rattle.items.proofs.Picks.{pick_in}
 use Rattle.items.proofs.fields.map_at.Goals as goal
 
-pub returns-in_err-map_head_at : goal.returns-in_err-map_head_at
-unfolding map_at
-returns-in_err-map_head_at c = search rules
+went_on : {X : Type 0} (r : Result X Fault) (came : Result Walk Fault) (w : Walk) → true ≡ is_ok r → Told r came w → came ≡ Ok w
+went_on (Ok x) came w good told = told
+went_on (Err e) came w good told = absurd (true≢false good)
 
-pub at-reader-requires : goal.at-reader-requires
-at-reader-requires c = pick_in 5 _ _ _ c.in_ok-map_head_at.ensures
+pub at-requires : goal.at-requires
+at-requires c = pick_in 5 _ _ _ c.in_ok-map_head_at.ensures
 
-pub returns-in_default : goal.returns-in_default
-returns-in_default c =
-    let same = c.at-reader.ensures.octets in
-    let there = c.at-reader.ensures.place in
-    sym (map_on c.args.octets.now c.args.place _ c.in_ok-map_head_at.ensures (Err _)
-    (sym (λ i. item_of containers (same i) (start_at (there i))) ∙ c.in_default.ensures.is))
-
-pub returns-then-not-tally : goal.returns-then-not-tally
-returns-then-not-tally c =
-    let same = c.at-reader.ensures.octets in
-    let there = c.at-reader.ensures.place in
-    let w : Walk = walk c.item.new.reader c.item.new.tally in
-    sym (map_on c.args.octets.now c.args.place _ c.in_ok-map_head_at.ensures (Ok w)
-    (sym (λ i. item_of containers (same i) (start_at (there i))) ∙ c.in-Ok.ensures.is) ∙ closed_none c.args.place w c.if-not-tally.true)
-
-pub overflow_sub-result : goal.overflow_sub-result
-overflow_sub-result c = omega (arith, c.place-behind.ensures.is, c.at-reader.ensures.place, item_forward _ _ _ _ c.in-Ok.ensures.is)
-
-pub returns : goal.returns
-returns c =
-    let same = c.at-reader.ensures.octets in
-    let there = c.at-reader.ensures.place in
-    let w : Walk = walk c.item.new.reader c.item.new.tally in
-    sym (map_on c.args.octets.now c.args.place _ c.in_ok-map_head_at.ensures (Ok w)
-    (sym (λ i. item_of containers (same i) (start_at (there i))) ∙ c.in-Ok.ensures.is) ∙ closed_some c.args.place w c.place-behind.result c.if-not-tally.false c.place-behind.ensures.is)
+pub overflow_sub-span : goal.overflow_sub-span
+overflow_sub-span c =
+    let on = item_forward _ _ _ _ (went_on c.item.result _ _ c.in_ok-ok.ensures.variant c.item.ensures.is) in
+    omega (arith, on, ap (λ r. r.place) c.new-walker.ensures.reader, c.at.ensures.place, ap (λ r. r.place) c.reader.ensures, c.place-behind.ensures.is)

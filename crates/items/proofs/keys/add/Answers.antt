@@ -4,7 +4,7 @@ use Rattle.items.specs.Keys.{span, has}
 use Rattle.items.specs.Stored.{held}
 use Rattle.items.proofs.Chains.{chain-new, judged-new, held_new, kept_new}
 use Rattle.items.proofs.keys.add.Goals as goal
-use Rattle.items.proofs.keys.add.Goals.{then-not-sorted+else-seen, else-not-sorted}
+use Rattle.items.proofs.keys.add.Goals.{else-not-sorted-via-then-not-sorted+else-seen, else-not-sorted-via-else-not-sorted}
 
 pub returns : goal.returns
 returns c =
@@ -14,9 +14,9 @@ returns c =
     let q = c.args.end in
     let k = span os p q in
     let up = c.ascends-up.ensures in
-    let not_there : has (held os old) k ≡ false = elim c.if-not-sorted.branch [
-      | then-not-sorted+else-seen w ↦ sym w.seen.ensures ∙ w.if-seen.false
-      | else-not-sorted w ↦
+    let not_there : has (held os old) k ≡ false = elim c.else-not-sorted.branch [
+      | else-not-sorted-via-then-not-sorted+else-seen w ↦ sym w.seen.ensures ∙ w.if-seen.false
+      | else-not-sorted-via-else-not-sorted w ↦
           let both = and_parts old.sorted c.ascends-up.result w.if-not-sorted.false in
           chain-new (held os old) k (sym c.requires.kept.sorted_is ∙ both.0) (sym up ∙ both.1)
     ] in

@@ -1,6 +1,10 @@
-use Rattle.std.proofs.Common.{sym, ap, ◌∙◌}
+use Rattle.std.proofs.Common.{◌-◌, refl, sym, ap, ◌∙◌, arith}
+use Rattle.std.specs.Prelude.{slice_index}
+use Rattle.std.proofs.lemmas.Cmp.{same_from_slice_cmp_tested}
+use Rattle.std.proofs.lemmas.Bool.Decides.{nat_tests}
+use Rattle.std.specs.Ordering.{is_lt, nat_cmp}
 use Rattle.items.specs.Stored.{held, keys_of}
-use Rattle.items.specs.Keys.{above}
+use Rattle.items.specs.Keys.{span, before, above}
 use Rattle.items.proofs.Chains.{above-last}
 use Rattle.items.proofs.keys.ascends.Goals as goal
 
@@ -10,4 +14,4 @@ returns-then-keys-eq0 c = ap (λ n. above (keys_of c.args.octets.now c.args.keys
 
 pub returns : goal.returns
 unfolding held
-returns c = c.below.ensures ∙ sym (above-last c.args.octets.now c.args.keys.now.starts c.args.keys.now.ends c.args.keys.now.count c.args.key.now c.if-keys-eq0.false)
+returns c = same_from_slice_cmp_tested nat_cmp is_lt before refl (λ _ _. refl) (λ _ _. refl) (λ x y xs ys o h. grind (arith, nat_tests)) (span c.args.octets.now (slice_index c.args.keys.now.starts (c.args.keys.now.count - 1)) (slice_index c.args.keys.now.ends (c.args.keys.now.count - 1))) c.args.key.now c.lt.result c.lt.ensures ∙ sym (above-last c.args.octets.now c.args.keys.now.starts c.args.keys.now.ends c.args.keys.now.count c.args.key.now c.if-keys-eq0.false)

@@ -1,15 +1,19 @@
 use Rattle.std.proofs.Common.{◌≡◌, sym, ap, ◌∙◌, arith}
 use Rattle.items.specs.Stored.{held, keys_of}
-use Rattle.items.specs.Keys.{has}
+use Rattle.std.specs.Prelude.{slice_index}
+use Rattle.std.specs.Str.{bytes_eq}
+use Rattle.std.proofs.lemmas.Slice.Eq.{slice_eq-Decides, bytes_eq-Decides}
+use Rattle.std.proofs.lemmas.Bool.Decides.{same_from_decides, Decides-eqb}
+use Rattle.items.specs.Keys.{span, has}
 use Rattle.items.proofs.Chains.{has_here, has_not}
 use Rattle.items.proofs.keys.seen.Goals as goal
 
-pub returns-then-same : goal.returns-then-same
+pub returns-then-eq : goal.returns-then-eq
 unfolding held
-returns-then-same c = sym (has_here c.args.octets.now c.args.keys.now.starts c.args.keys.now.ends c.args.key.now c.loop-i.i c.args.keys.now.count c.loop-i-test.true (sym c.same.ensures ∙ c.if-same.true))
+returns-then-eq c = sym (has_here c.args.octets.now c.args.keys.now.starts c.args.keys.now.ends c.args.key.now c.loop-i.i c.args.keys.now.count c.loop-i-test.true (sym (same_from_decides c.eq.result (bytes_eq (span c.args.octets.now (slice_index c.args.keys.now.starts c.loop-i.i) (slice_index c.args.keys.now.ends c.loop-i.i)) c.args.key.now) (slice_eq-Decides Decides-eqb _ _ _ c.eq.ensures) (bytes_eq-Decides (span c.args.octets.now (slice_index c.args.keys.now.starts c.loop-i.i) (slice_index c.args.keys.now.ends c.loop-i.i)) c.args.key.now)) ∙ c.if-eq.true))
 
 pub loop-i-preserved : goal.loop-i-preserved
-loop-i-preserved c = has_not c.args.octets.now c.args.keys.now.starts c.args.keys.now.ends c.args.key.now c.loop-i.i c.loop-i.invariant (sym c.same.ensures ∙ c.if-same.false)
+loop-i-preserved c = has_not c.args.octets.now c.args.keys.now.starts c.args.keys.now.ends c.args.key.now c.loop-i.i c.loop-i.invariant (sym (same_from_decides c.eq.result (bytes_eq (span c.args.octets.now (slice_index c.args.keys.now.starts c.loop-i.i) (slice_index c.args.keys.now.ends c.loop-i.i)) c.args.key.now) (slice_eq-Decides Decides-eqb _ _ _ c.eq.ensures) (bytes_eq-Decides (span c.args.octets.now (slice_index c.args.keys.now.starts c.loop-i.i) (slice_index c.args.keys.now.ends c.loop-i.i)) c.args.key.now)) ∙ c.if-eq.false)
 
 pub returns : goal.returns
 unfolding held

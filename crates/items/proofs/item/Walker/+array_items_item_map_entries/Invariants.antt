@@ -2,7 +2,7 @@ use Rattle.std.proofs.Common.{◌≡◌, ◌+◌, ◌-◌, ◌*◌, ◌≤◌, [
 use Rattle.items.specs.Stored.{held, Kept}
 use Rattle.items.specs.Reading.{item_of, items_of, entries_of, array_items, map_entries}
 use Rattle.items.specs.Walks.{walk}
-use Rattle.items.proofs.item.+array_items_item_map_entries.Given as goal
+use Rattle.items.proofs.item.Walker.+array_items_item_map_entries.Given as goal
 
 -- items at a depth calls item at it, and item calls items one below
 abbrev pub decreases-item : goal.decreases-item
@@ -17,17 +17,17 @@ decreases-map_entries l = 2 * l.depth + 1
 -- the octets stay, and what is left to read answers as the whole does
 abbrev pub invariant-array_items-loop-i : goal.invariant-array_items-loop-i
 invariant-array_items-loop-i l =
-    (l.reader.octets.now ≡ l.initial.reader.octets.now)
+    (l.self.reader.octets.now ≡ l.initial.self.reader.octets.now)
     × (l.i ≤ array_items)
-    × (items_of (item_of l.depth l.initial.reader.octets.now) l.initial.reader.octets.now (l.count - l.i) (array_items - l.i) (walk l.reader l.tally)
-    ≡ items_of (item_of l.depth l.initial.reader.octets.now) l.initial.reader.octets.now l.count array_items (walk l.initial.reader l.initial.tally))
+    × (items_of (item_of l.depth l.initial.self.reader.octets.now) l.initial.self.reader.octets.now (l.count - l.i) (array_items - l.i) (walk l.self)
+    ≡ items_of (item_of l.depth l.initial.self.reader.octets.now) l.initial.self.reader.octets.now l.count array_items (walk l.initial.self))
 
 -- the same of a map's entries, behind the keys that are kept
 abbrev pub invariant-map_entries-loop-i : goal.invariant-map_entries-loop-i
 invariant-map_entries-loop-i l =
-    (l.reader.octets.now ≡ l.octets)
+    (l.self.reader.octets.now ≡ l.octets)
     × (l.i ≤ map_entries)
     × Kept l.octets l.keys
     × (l.keys.count ≡ l.i)
-    × (entries_of (item_of l.depth l.octets) l.octets (l.count - l.i) (map_entries - l.i) (held l.octets l.keys) (walk l.reader l.tally)
-    ≡ entries_of (item_of l.depth l.octets) l.octets l.count map_entries [] (walk l.initial.reader l.initial.tally))
+    × (entries_of (item_of l.depth l.octets) l.octets (l.count - l.i) (map_entries - l.i) (held l.octets l.keys) (walk l.self)
+    ≡ entries_of (item_of l.depth l.octets) l.octets l.count map_entries [] (walk l.initial.self))
