@@ -4,14 +4,8 @@ ghost use Rattle.items.specs.Heads.{head_size};
 ghost use Rattle.items.specs.Reading.{message_items};
 ghost use Rattle.message.specs.Sizes.{up_to, next_head, strings_fit};
 
-use items::types::Span;
+use items::types::{Major, Span};
 use items::{bytes_at, text_at};
-
-// Major types.
-// Kept: three bits of an octet are matched once; an enum would need a conversion with the same three arms before that.
-const BYTES: u8 = 2;
-
-const TEXT: u8 = 3;
 
 // The most octets that a byte string holds.
 const BYTES_MOST: usize = 2048;
@@ -51,9 +45,9 @@ fn next_head(octets: &[u8], place: usize) -> Option<usize>
     requires { place < length octets.now }
     ensures { result ≡ next_head octets.now place }
 {
-    match octets[place] / 32 {
-        BYTES => up_to(BYTES_MOST, bytes_at(octets, place)),
-        TEXT => up_to(TEXT_MOST, text_at(octets, place)),
+    match Major::of(octets[place]) {
+        Major::Bytes => up_to(BYTES_MOST, bytes_at(octets, place)),
+        Major::Text => up_to(TEXT_MOST, text_at(octets, place)),
         _ => {
             let size = head_size(octets, place);
             (size <= octets.len() - place).then(|| place + size)
