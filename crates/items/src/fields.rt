@@ -9,6 +9,7 @@ use crate::reader::Reader;
 use crate::types::{Major, Span};
 use text::is_text;
 
+// Kept: octets and a place, here and below: who calls has its own place, and passes these calls on by name, as what reads a value.
 // The argument of a shortest head of this major type, and the place behind it.
 #[tactic(auto, unfolding(crate::specs::Fields::argument_at, crate::specs::Heads::head_at))]
 fn argument_at(octets: &[u8], place: usize, major: Major) -> Option<(u64, usize)>

@@ -84,6 +84,7 @@ impl<'a> Walker<'a> {
         ensures octets { self.new.reader.octets.now ≡ self.old.reader.octets.now }
         ensures is { Told result (items_of (item_of depth self.old.reader.octets.now) self.old.reader.octets.now count array_items (walk self.old)) (walk self.new) }
     {
+        // Kept: the range is what the head announces, here and below; nothing is taken by its number.
         for i in 0..count {
             if i == ARRAY_ITEMS {
                 return Err(self.reader.fault());

@@ -78,6 +78,7 @@ pub fn lookup(octets: &[u8], place: &mut usize, key: u64) -> Result<Option<usize
     if head.major != Major::Map {
         return Err(Fault::Malformed);
     }
+    // Kept: the range is what the head announces; each entry says where the next one starts.
     for i in 0..head.argument {
         let reader = Reader::at(octets, *guard.place);
         if i == MAP_ENTRIES as u64 {

@@ -43,6 +43,8 @@ fn mark_of(view: &View, transcript: &Transcript<'_>) -> Mark
     }
 }
 
+// Kept: each stage requires the power that was asked for once. A struct of the lent store and that fact was tried: the fact has to
+// hold when the loan ends too, and a raise may cut the power.
 // Room, and the write.
 fn raise<S: Store>(store: &mut S, release: Release) -> Verdict
     requires on { (S.state store.old).on ≡ true }

@@ -1,6 +1,7 @@
 // What is heard of a burst.
 use answers::refusal::Refusal;
 
+// Kept: the rules list what is heard by its cases.
 #[derive(Clone, Copy, Debug, PartialEq, Eq)]
 pub enum Hearing {
     // no frame begins here

@@ -27,6 +27,7 @@ pub fn carry_out<S: Store, V: Verifier>(
     }
 }
 
+// Kept: the run of calls on a store alone has the same `for`, and nothing else of it: each tells a history of its own kind.
 /// Carries out calls until they or the places for replies end, and says how many. The run is a lawful history.
 pub fn run<S: Store, V: Verifier>(
     receiver: &mut Receiver<S>,

@@ -12,6 +12,7 @@ use crate::verifier::Verifier;
 // The octets of a row.
 const ROW: usize = 64;
 
+// Kept: an alg is a number, since a verifier is asked of any.
 // The one alg that has tags.
 const TAG_ALG: u8 = 3;
 
@@ -69,6 +70,7 @@ impl<'a> TagSheet<'a> {
         TagSheet { octets }
     }
 
+    // Kept: here and in the other sheet each question has its own test of a row; what they share is one call of `any`.
     // Whether some row makes the kid known.
     fn has_kid(&self, kid: &[u8]) -> bool
         ensures { result ≡ list_any (is_of_kid kid.now) (rows_of 64 self.now.octets.now) }

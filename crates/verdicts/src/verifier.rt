@@ -4,6 +4,7 @@ ghost use Rattle.verdicts.specs.Transcripts.{octets_of};
 
 use crate::transcript::Transcript;
 
+// Kept: kid, alg, transcript and signature are asked about each by itself, and whoever asks holds them in a message.
 /// A verifier of signatures. Its questions change nothing.
 pub trait Verifier {
     // Whether a kid is known for an alg.

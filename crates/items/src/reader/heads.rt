@@ -6,6 +6,7 @@ use super::Reader;
 use crate::types::{Fault, Head, Major, Span};
 use text::is_text;
 
+// Kept: five bits of the format, each named by what it announces and matched below; an enum would be made by the same match.
 // Additional information: below `ONE_OCTET` it is the argument itself, from `RESERVED` on it is none.
 const ONE_OCTET: u8 = 24;
 
@@ -108,6 +109,7 @@ impl<'a> Reader<'a> {
         Ok(taken)
     }
 
+    // Kept: each method that moves the place says that the octets stay: no type says what a `&mut` leaves alone.
     // Moves the place past `count` octets of text.
     #[tactic(auto, unfolding(crate::specs::Heads::text_read, crate::specs::Heads::skipped))]
     pub(crate) fn text(&mut self, count: u64) -> Result<(), Fault>
