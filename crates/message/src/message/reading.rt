@@ -15,13 +15,18 @@ pub fn read(octets: &[u8]) -> Result<Message<'_>, Refusal>
     ensures kid { IfOk result (λ m. length m.view.auth.kid ≡ 16) }
     ensures octets { IfOk result (λ m. m.octets.now ≡ octets.now) }
 {
-    let reading = items::read(octets).map_err(|fault| match fault {
-        Fault::Malformed => Refusal::CborParse,
-        Fault::Indefinite => Refusal::Indefinite,
-    })?;
-    if !reading.deterministic {
+    let read = items::read(octets);
+    let (Ok(_) | Err(Fault::Indefinite)) = read else {
+        return Err(Refusal::CborParse);
+    };
+    let Ok(reading) = read else {
+        return Err(Refusal::Indefinite);
+    };
+    let true = reading.deterministic else {
         return Err(Refusal::NotDeterministic);
-    }
-    let view = view_of(octets).ok_or(Refusal::Schema)?;
+    };
+    let Some(view) = view_of(octets) else {
+        return Err(Refusal::Schema);
+    };
     Ok(Message { octets, view })
 }
