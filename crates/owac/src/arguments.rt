@@ -8,90 +8,64 @@ use words::number::number;
 // Begins a comment.
 const COMMENT: char = '#';
 
+// The first word, and those behind it.
 #[derive(Drop)]
 pub struct Arguments<'a> {
     heap: Global,
+    command: &'a str,
     words: SplitWhitespace<'a>,
 }
 
 impl<'a> Arguments<'a> {
-    // The words of a line up to its comment.
-    pub fn new(heap: Global, line: &'a str) -> Arguments<'a> {
-        let text = match line.split_once(COMMENT) {
-            Some((before, _)) => before,
-            None => line,
-        };
-        Arguments {
+    // The words of a line up to its comment, if there are any.
+    pub fn read(heap: Global, line: &'a str) -> Option<Arguments<'a>> {
+        let text = line.split_once(COMMENT).map_or(line, |(before, _)| before);
+        let mut words = text.split_whitespace();
+        let command = words.next()?;
+        Some(Arguments {
             heap,
-            words: text.split_whitespace(),
-        }
+            command,
+            words,
+        })
     }
 
     pub fn heap(&self) -> Global {
         self.heap
     }
 
-    pub fn next(&mut self) -> Option<&'a str> {
-        self.words.next()
+    pub fn command(&self) -> &'a str {
+        self.command
     }
 
     pub fn word(&mut self) -> Result<&'a str, Unreadable> {
-        match self.words.next() {
-            Some(word) => Ok(word),
-            None => Err(Unreadable::MissingWord),
-        }
+        self.words.next().ok_or(Unreadable::MissingWord)
     }
 
     // Octets of any number.
     pub fn octets(&mut self) -> Result<Vec<u8>, Unreadable> {
-        match hex::octets(self.heap, self.word()?)? {
-            Some(octets) => Ok(octets),
-            None => Err(Unreadable::NotHex),
-        }
-    }
-
-    // Octets of any number, and nothing more.
-    pub fn last_octets(&mut self) -> Result<Vec<u8>, Unreadable> {
-        let octets = self.octets()?;
-        self.end()?;
-        Ok(octets)
+        hex::octets(self.heap, self.word()?)?.ok_or(Unreadable::NotHex)
     }
 
     // Exactly N octets.
     pub fn array<const N: usize>(&mut self) -> Result<[u8; N], Unreadable> {
-        match <[u8; N]>::try_from(self.octets()?.as_slice()) {
-            Ok(array) => Ok(array),
-            Err(_) => Err(Unreadable::WrongLength(N)),
-        }
+        let octets = self.octets()?;
+        <[u8; N]>::try_from(octets.as_slice()).map_err(|_| Unreadable::WrongLength(N))
     }
 
     pub fn number(&mut self) -> Result<u64, Unreadable> {
-        match number(self.word()?) {
-            Some(n) => Ok(n),
-            None => Err(Unreadable::NotNumber),
-        }
-    }
-
-    // A number, and nothing more.
-    pub fn last_number(&mut self) -> Result<u64, Unreadable> {
-        let n = self.number()?;
-        self.end()?;
-        Ok(n)
+        number(self.word()?).ok_or(Unreadable::NotNumber)
     }
 
     // What stands behind `=` in the option `name`.
     pub fn option(&mut self, name: &'static str) -> Result<&'a str, Unreadable> {
-        match self.word()?.split_once('=') {
-            Some((found, value)) if found == name => Ok(value),
-            _ => Err(Unreadable::NoOption(name)),
-        }
+        self.word()?
+            .strip_prefix(name)
+            .and_then(|rest| rest.strip_prefix('='))
+            .ok_or(Unreadable::NoOption(name))
     }
 
     pub fn number_option(&mut self, name: &'static str) -> Result<u64, Unreadable> {
-        match number(self.option(name)?) {
-            Some(n) => Ok(n),
-            None => Err(Unreadable::NotNumber),
-        }
+        number(self.option(name)?).ok_or(Unreadable::NotNumber)
     }
 
     pub fn size_option(&mut self, name: &'static str) -> Result<usize, Unreadable> {
@@ -100,9 +74,9 @@ impl<'a> Arguments<'a> {
 
     // Nothing more.
     pub fn end(&mut self) -> Result<(), Unreadable> {
-        match self.words.next() {
-            None => Ok(()),
-            Some(_) => Err(Unreadable::SpareWords),
+        if self.words.next().is_some() {
+            return Err(Unreadable::SpareWords);
         }
+        Ok(())
     }
 }

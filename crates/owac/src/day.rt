@@ -5,22 +5,24 @@ use crate::failure::Failure;
 use crate::job::Job;
 use crate::line_commands::BURST_MOST;
 use crate::pile::CELL_OCTETS;
-use crate::plan::{Event, Line, Step};
+use crate::plan::{Event, Line, Step, Time};
 use crate::sheet::Sheet;
 use crate::{marks_list, plan};
 use journal::floor::Floor;
 use journal::journal::Journal;
-use judging::answer::{Listening, Verdict};
+use judging::answer::{Lent, Listening, Verdict};
 use line::frame;
 use line_laws::loopback::loopback;
 use marks::cells::Cells;
 use marks::image::ImageCells;
 use marks::mark::CutLeaves;
+use marks::power::Power;
 use marks::store::Store;
 use receiver::call::{Call, Reply};
 use receiver::receiver::Receiver;
 use receiver::run;
 use std::alloc::{AllocError, Global};
+use std::fmt;
 use verdicts::Verifier;
 
 // The cells of the image.
@@ -40,66 +42,141 @@ const DAMAGED_OCTET: usize = 60;
 
 const DAMAGED_BIT: u8 = 0x10;
 
-// A message, and the burst that comes of it.
+// A burst on the line, and the message that it comes of.
 #[derive(Drop)]
-struct Sent {
+struct Burst {
     message: Vec<u8>,
-    burst: Vec<u8>,
+    octets: Vec<u8>,
     count: usize,
+    suspect: bool,
 }
 
-impl Sent {
-    // Nothing at all.
-    fn none(heap: Global) -> Sent {
-        Sent {
-            message: Vec::new(heap),
-            burst: Vec::new(heap),
-            count: 0,
-        }
-    }
-
+impl Burst {
     // The workstation hears its own burst before it goes out.
-    fn new(heap: Global, draft: &Draft, line: Line) -> Result<Sent, Failure> {
+    fn new(heap: Global, draft: &Draft, line: Line) -> Result<Burst, Failure> {
         let message = draft.message(heap, &plan::SENDER)?;
-        let mut burst = Vec::from_elem(heap, 0u8, BURST_MOST)?;
+        let mut octets = Vec::from_elem(heap, 0u8, BURST_MOST)?;
         let mut work = Vec::from_elem(heap, 0u8, frame::WORK_OCTETS)?;
-        let octets = message.as_slice();
-        let heard = match loopback(octets, burst.as_mut_slice(), work.as_mut_slice()) {
-            Ok(heard) => heard,
-            Err(refusal) => return Err(Failure::Refused(refusal)),
-        };
+        let heard = loopback(
+            message.as_slice(),
+            octets.as_mut_slice(),
+            work.as_mut_slice(),
+        )?;
         let count = heard.next.saturating_add(FLAG_TONES);
-        burst.truncate(count.div_ceil(8));
-        if let Line::Damaged = line {
-            if let Some(octet) = burst.get_mut(DAMAGED_OCTET) {
+        octets.truncate(count.div_ceil(8));
+        if line == Line::Damaged {
+            if let Some(octet) = octets.get_mut(DAMAGED_OCTET) {
                 *octet ^= DAMAGED_BIT;
             }
         }
-        Ok(Sent {
+        Ok(Burst {
             message,
-            burst,
+            octets,
             count,
+            suspect: line == Line::Doubted,
+        })
+    }
+}
+
+// What a step brings to the receiver.
+#[derive(Drop)]
+enum Coming {
+    Burst(Burst),
+    // power for so many writes
+    PowerBack(u64),
+}
+
+// What comes, and when.
+#[derive(Drop)]
+struct Arrival {
+    at: Time,
+    coming: Coming,
+    note: &'static str,
+}
+
+impl Arrival {
+    fn new(heap: Global, step: &Step) -> Result<Arrival, Failure> {
+        let coming = match &step.event {
+            Event::Job(draft, line) => Coming::Burst(Burst::new(heap, draft, *line)?),
+            Event::PowerBack(writes) => Coming::PowerBack(*writes),
+        };
+        Ok(Arrival {
+            at: step.at,
+            coming,
+            note: step.note,
         })
     }
 
-    // What comes at a step.
-    fn at(heap: Global, step: &Step) -> Result<Sent, Failure> {
-        match &step.event {
-            Event::Job(draft, line) => Sent::new(heap, draft, *line),
-            Event::PowerBack(_) => Ok(Sent::none(heap)),
+    // The call that it makes.
+    fn call<'a, V>(&'a self, verifier: &'a V) -> Call<'a, V> {
+        match &self.coming {
+            Coming::PowerBack(writes) => Call::SwitchOn(*writes),
+            Coming::Burst(burst) => Call::Listen {
+                lent: Lent {
+                    verifier,
+                    burst: burst.octets.as_slice(),
+                    listening: Listening {
+                        count: burst.count,
+                        start: 0,
+                        clock: self.at.clock(),
+                        suspect: burst.suspect,
+                    },
+                    catalog: &plan::CATALOG,
+                },
+                work: frame::WORK_OCTETS,
+            },
+        }
+    }
+
+    // The job that comes, if it can be read.
+    fn job(&self) -> Option<Job<'_>> {
+        match &self.coming {
+            Coming::Burst(burst) => Job::read(burst.message.as_slice()),
+            Coming::PowerBack(_) => None,
+        }
+    }
+
+    // Prints it in an operator's words, with what was replied.
+    fn print(&self, rt: &HostRuntime, reply: Reply) -> Result<(), Failure> {
+        let Time { hour, minute } = self.at;
+        // a text of its own, since a width is for texts
+        let came = format!(in rt.alloc(); "{self}")?;
+        let decided = Decided(reply);
+        println!(rt; "{hour:02}:{minute:02}  {came:<86}  {decided}")?;
+        Ok(())
+    }
+}
+
+impl fmt::Display for Arrival {
+    fn fmt<W: fmt::Write>(&self, f: &mut fmt::Formatter<W>) -> fmt::Result {
+        if let Some(job) = self.job() {
+            write!(f, "{job}")?;
+        }
+        f.write_str(self.note)
+    }
+}
+
+// What was decided.
+#[derive(Clone, Copy)]
+struct Decided(Reply);
+
+impl fmt::Display for Decided {
+    fn fmt<W: fmt::Write>(&self, f: &mut fmt::Formatter<W>) -> fmt::Result {
+        let Reply::Heard(answer) = self.0 else {
+            return f.write_str("on");
+        };
+        match answer.verdict {
+            Verdict::Quiet => f.write_str("quiet"),
+            Verdict::Duplicate => f.write_str("DUPLICATE"),
+            Verdict::Refused(refusal) => write!(f, "refused {} {refusal}", refusal.number()),
+            Verdict::Released(_) => f.write_str("RELEASED"),
         }
     }
 }
 
 // Adds the rows of the tags that are on the sheet.
 fn push_rows(heap: Global, rows: &mut Vec<u8>, steps: &[Step]) -> Result<(), AllocError> {
-    for step in steps {
-        let Event::Job(draft, _) = &step.event else {
-            continue;
-        };
-        if !draft.listed {
-            continue;
-        }
+    for draft in steps.iter().filter_map(Step::listed) {
         let octets = draft.message(heap, &plan::SENDER)?;
         if let Ok(message) = message::read(octets.as_slice()) {
             rows.extend_from_slice(&draft.kid)?;
@@ -110,94 +187,28 @@ fn push_rows(heap: Global, rows: &mut Vec<u8>, steps: &[Step]) -> Result<(), All
     Ok(())
 }
 
-// The call that a step makes.
-fn call_of<'a, V>(step: &Step, sent: &'a Sent, verifier: &'a V) -> Call<'a, V> {
-    let suspect = match step.event {
-        Event::PowerBack(writes) => return Call::SwitchOn(writes),
-        Event::Job(_, Line::Doubted) => true,
-        Event::Job(_, _) => false,
-    };
-    Call::Listen {
-        burst: sent.burst.as_slice(),
-        listening: Listening {
-            count: sent.count,
-            start: 0,
-            clock: step.at.clock(),
-            suspect,
-        },
-        catalog: &plan::CATALOG,
-        work: frame::WORK_OCTETS,
-        verifier,
-    }
-}
-
-// What came, in an operator's words.
-fn came(heap: Global, step: &Step, sent: &Sent) -> Result<String, AllocError> {
-    let note = step.note;
-    match Job::read(sent.message.as_slice()) {
-        Some(job) => format!(in heap; "{job}{note}"),
-        None => format!(in heap; "{note}"),
-    }
-}
-
-// What was decided.
-fn decided(heap: Global, reply: Reply) -> Result<String, AllocError> {
-    let Reply::Heard(answer) = reply else {
-        return format!(in heap; "on");
-    };
-    match answer.verdict {
-        Verdict::Quiet => format!(in heap; "quiet"),
-        Verdict::Duplicate => format!(in heap; "DUPLICATE"),
-        Verdict::Refused(refusal) => {
-            let number = refusal.number();
-            let name = refusal.name();
-            format!(in heap; "refused {number} {name}")
-        }
-        Verdict::Released(_) => format!(in heap; "RELEASED"),
-    }
-}
-
-fn print_step(rt: &HostRuntime, step: &Step, sent: &Sent, reply: Reply) -> Result<(), Failure> {
-    let hour = step.at.hour;
-    let minute = step.at.minute;
-    let came = came(rt.alloc(), step, sent)?;
-    let decided = decided(rt.alloc(), reply)?;
-    println!(rt; "{hour:02}:{minute:02}  {came:<86}  {decided}")?;
-    Ok(())
-}
-
-// What comes at each step.
-fn send_all(heap: Global, steps: &[Step]) -> Result<Vec<Sent>, Failure> {
-    let mut sent = Vec::new(heap);
-    for step in steps {
-        sent.push(Sent::at(heap, step)?)?;
-    }
-    Ok(sent)
-}
-
-// The calls of all steps.
+// The calls that all that comes makes.
 fn calls_of<'a, V>(
     heap: Global,
-    steps: &[Step],
-    sent: &'a [Sent],
+    arrivals: &'a [Arrival],
     verifier: &'a V,
 ) -> Result<Vec<Call<'a, V>>, AllocError> {
     let mut calls = Vec::new(heap);
-    for (step, sent) in steps.iter().zip(sent.iter()) {
-        calls.push(call_of(step, sent, verifier))?;
+    // Kept: in a chain the closure would hand out what borrows the item and the verifier, and no proof is made of it.
+    for arrival in arrivals {
+        calls.push(arrival.call(verifier))?;
     }
     Ok(calls)
 }
 
-// The replies to the calls of all steps, which are carried out in one run.
+// The replies to those calls, which are carried out in one run.
 fn replies_to<'a, S: Store, V: Verifier>(
     heap: Global,
     receiver: &mut Receiver<S>,
-    steps: &[Step],
-    sent: &'a [Sent],
+    arrivals: &'a [Arrival],
     verifier: &'a V,
 ) -> Result<Vec<Reply>, AllocError> {
-    let calls = calls_of(heap, steps, sent, verifier)?;
+    let calls = calls_of(heap, arrivals, verifier)?;
     let mut replies = Vec::from_elem(heap, Reply::On, calls.len())?;
     let mut work = Vec::from_elem(heap, 0u8, frame::WORK_OCTETS)?;
     let _ = run::run(
@@ -217,10 +228,13 @@ fn play<S: Store>(
     steps: &[Step],
 ) -> Result<(), Failure> {
     let heap = rt.alloc();
-    let sent = send_all(heap, steps)?;
-    let replies = replies_to(heap, receiver, steps, sent.as_slice(), sheet)?;
-    for ((step, sent), reply) in steps.iter().zip(sent.iter()).zip(replies.iter()) {
-        print_step(rt, step, sent, *reply)?;
+    let arrivals: Vec<Arrival> = steps
+        .iter()
+        .map(|step| Arrival::new(heap, step))
+        .try_collect(heap)?;
+    let replies = replies_to(heap, receiver, arrivals.as_slice(), sheet)?;
+    for (arrival, reply) in arrivals.iter().zip(replies.iter()) {
+        arrival.print(rt, *reply)?;
     }
     Ok(())
 }
@@ -245,7 +259,12 @@ pub fn run_day(rt: &HostRuntime) -> Result<(), Failure> {
     println!(rt;
         "A day at a playout house: {CELLS} cells for marks, power for {CHARGE} writes, a cut tears the cell"
     )?;
-    let cells = ImageCells::new(image.as_mut_slice(), true, CHARGE, CutLeaves::Torn);
+    let power = Power {
+        on: true,
+        charge: CHARGE,
+        leaves: CutLeaves::Torn,
+    };
+    let cells = ImageCells::new(image.as_mut_slice(), power);
     let mut receiver = Receiver::new(Journal::new(cells));
     play(rt, &mut receiver, &sheet, early.as_slice())?;
     println!(rt; "18:00  the floor is raised to epoch {FLOOR}")?;

@@ -1,11 +1,14 @@
 // What the program shows when it is asked for nothing: a message on the line, and marks through power cuts.
 use crate::failure::Failure;
-use crate::message_commands::judgement;
-use crate::pile::{CELL_OCTETS, Call, Memory, Pile, Reply, Supply};
+use crate::line_commands::Reception;
+use crate::message_commands::Judgement;
+use crate::pile::{CELL_OCTETS, Call, Memory, Pile, Reply};
 use line::frame;
 use line::heard::{Heard, Hearing};
 use line_laws::loopback::loopback;
 use marks::mark::{CutLeaves, Mark, Pair, Position, Raised};
+use marks::power::Power;
+use std::alloc::Global;
 
 // A message that queues track 42 with priority 5, at epoch 7 and counter 105.
 const MESSAGE: [u8; 81] = [
@@ -22,10 +25,8 @@ const MESSAGE: [u8; 81] = [
     0xC8, 0xC9, 0xCA, 0xCB, 0xCC, 0xCD, 0xCE, 0xCF,
 ];
 
-// The bits of the closing flag, and the octets of the FCS.
+// The bits of the closing flag.
 const CLOSING_BITS: usize = 8;
-
-const FCS_OCTETS: usize = 2;
 
 // The clock, in seconds.
 const CLOCK: u64 = 1_000_000;
@@ -49,17 +50,16 @@ const PAIR: Pair = Pair {
 // The epoch of the marks.
 const EPOCH: u64 = 7;
 
-fn print_heard(rt: &HostRuntime, what: &str, heard: Heard, work: &[u8]) -> Result<(), Failure> {
-    let next = heard.next;
-    match heard.hearing {
+fn print_heard(rt: &HostRuntime, what: &str, reception: Reception<'_>) -> Result<(), Failure> {
+    let Heard { hearing, next } = reception.heard;
+    match hearing {
         Hearing::Quiet => println!(rt; "{what}: quiet, next place {next}")?,
         Hearing::Refused(refusal) => {
             let number = refusal.number();
-            let name = refusal.name();
-            println!(rt; "{what}: refused {number} {name}, next place {next}")?;
+            println!(rt; "{what}: refused {number} {refusal}, next place {next}")?;
         }
         Hearing::Frame(length) => {
-            let came = if work.starts_with(&MESSAGE) {
+            let came = if reception.work.starts_with(&MESSAGE) {
                 "the message as it was sent"
             } else {
                 "another message"
@@ -70,14 +70,11 @@ fn print_heard(rt: &HostRuntime, what: &str, heard: Heard, work: &[u8]) -> Resul
     Ok(())
 }
 
-// What the message of a frame says, without its FCS.
-fn print_said(rt: &HostRuntime, work: &[u8], heard: Heard) -> Result<(), Failure> {
-    let Hearing::Frame(length) = heard.hearing else {
-        return Ok(());
-    };
-    let octets = length.saturating_sub(FCS_OCTETS).min(work.len());
-    let said = judgement(rt.alloc(), &work[0..octets], CLOCK)?;
-    println!(rt; "read: {said}")?;
+// What the message of a frame says.
+fn print_said(rt: &HostRuntime, reception: Reception<'_>) -> Result<(), Failure> {
+    if let Some(octets) = reception.message() {
+        println!(rt; "read: {}", Judgement::of(octets, CLOCK))?;
+    }
     Ok(())
 }
 
@@ -85,23 +82,24 @@ fn print_said(rt: &HostRuntime, work: &[u8], heard: Heard) -> Result<(), Failure
 fn show_line(rt: &HostRuntime) -> Result<(), Failure> {
     let mut octets = [0u8; ROOM];
     let mut work = Vec::from_elem(rt.alloc(), 0u8, frame::WORK_OCTETS)?;
-    let heard = match loopback(&MESSAGE, &mut octets, work.as_mut_slice()) {
-        Ok(heard) => heard,
-        Err(refusal) => return Err(Failure::Refused(refusal)),
-    };
+    let heard = loopback(&MESSAGE, &mut octets, work.as_mut_slice())?;
     let length = MESSAGE.len();
     let count = heard.next.saturating_add(CLOSING_BITS);
     println!(rt; "a message of {length} octets: queue track 42, priority 5")?;
     println!(rt; "sent: a burst of {count} tones")?;
-    print_heard(rt, "heard", heard, work.as_slice())?;
-    print_said(rt, work.as_slice(), heard)?;
-    let heard = frame::hear(&octets, count, heard.next, work.as_mut_slice());
-    print_heard(rt, "heard behind it", heard, work.as_slice())?;
-    let heard = frame::hear(&octets, count / 2, 0, work.as_mut_slice());
-    print_heard(rt, "heard cut in half", heard, work.as_slice())?;
+    let whole = Reception {
+        heard,
+        work: work.as_slice(),
+    };
+    print_heard(rt, "heard", whole)?;
+    print_said(rt, whole)?;
+    let behind = Reception::new(&octets, count, heard.next, work.as_mut_slice());
+    print_heard(rt, "heard behind it", behind)?;
+    let half = Reception::new(&octets, count / 2, 0, work.as_mut_slice());
+    print_heard(rt, "heard cut in half", half)?;
     octets[DAMAGED_OCTET] ^= DAMAGED_BIT;
-    let heard = frame::hear(&octets, count, 0, work.as_mut_slice());
-    print_heard(rt, "heard with one tone damaged", heard, work.as_slice())
+    let damaged = Reception::new(&octets, count, 0, work.as_mut_slice());
+    print_heard(rt, "heard with one tone damaged", damaged)
 }
 
 // Where the pair's mark stands.
@@ -117,7 +115,19 @@ fn print_mark(rt: &HostRuntime, pile: &mut Pile, what: &str) -> Result<(), Failu
     Ok(())
 }
 
-// How a raise ended.
+// A store of marks over blank cells, with power for two writes.
+fn blank(heap: Global, leaves: CutLeaves) -> Result<Pile, Failure> {
+    let image = Vec::from_elem(heap, 0u8, CELLS * CELL_OCTETS)?;
+    let power = Power {
+        on: true,
+        charge: 2,
+        leaves,
+    };
+    Ok(Pile::new(Memory::Image(image), power))
+}
+
+// How a raise ended, in an operator's words.
+// Kept: a script and an operator read words of their own; store_commands.rt has the other table.
 fn ending(raised: Raised) -> &'static str {
     match raised {
         Raised::Off => "refused, the power is off",
@@ -148,17 +158,10 @@ fn show_raise(rt: &HostRuntime, pile: &mut Pile, counter: u64) -> Result<(), Fai
 // Raises until the power fails in a write, and again once it is back.
 fn show_cut(rt: &HostRuntime, name: &str, leaves: CutLeaves) -> Result<(), Failure> {
     println!(rt; "three blank cells, power for two writes; a cut leaves the cell {name}")?;
-    let image = Vec::from_elem(rt.alloc(), 0u8, CELLS * CELL_OCTETS)?;
-    let supply = Supply {
-        on: true,
-        charge: 2,
-        leaves,
-    };
-    let mut pile = Pile::new(Memory::Image(image), supply);
-    for counter in 105..108u64 {
+    let mut pile = blank(rt.alloc(), leaves)?;
+    for counter in 105..=108u64 {
         show_raise(rt, &mut pile, counter)?;
     }
-    show_raise(rt, &mut pile, 108)?;
     let _ = pile.call(Call::SwitchOn(1));
     print_mark(rt, &mut pile, "switched on for one write")?;
     show_raise(rt, &mut pile, 107)?;
@@ -167,14 +170,8 @@ fn show_cut(rt: &HostRuntime, name: &str, leaves: CutLeaves) -> Result<(), Failu
 
 // A floor above a mark.
 fn show_floor(rt: &HostRuntime) -> Result<(), Failure> {
-    let image = Vec::from_elem(rt.alloc(), 0u8, CELLS * CELL_OCTETS)?;
-    let supply = Supply {
-        on: true,
-        charge: 2,
-        leaves: CutLeaves::Old,
-    };
-    let mut pile = Pile::new(Memory::Image(image), supply);
-    pile.lay(EPOCH + 2);
+    let mut pile = blank(rt.alloc(), CutLeaves::Old)?;
+    let _ = pile.lay(EPOCH + 2);
     print_mark(rt, &mut pile, "a floor of epoch 9 on three blank cells")?;
     show_raise(rt, &mut pile, 105)
 }

@@ -1,14 +1,14 @@
 // Jobs as a sender writes them: a message's octets, signed with a tag.
 use std::alloc::{AllocError, Global};
 
-// The first octet of a head of each major type, with the argument 0.
-const UNSIGNED: u8 = 0x00;
-
-const BYTES: u8 = 0x40;
-
-const TEXT: u8 = 0x60;
-
-const MAP: u8 = 0xA0;
+// The major types that are written, each as the first octet of a head with the argument 0.
+#[derive(Clone, Copy)]
+enum Major {
+    Unsigned = 0x00,
+    Bytes = 0x40,
+    Text = 0x60,
+    Map = 0xA0,
+}
 
 // The alg that is signed with tags.
 const TAG_ALG: u64 = 3;
@@ -36,45 +36,36 @@ pub struct Draft {
 }
 
 // A head, as short as can be.
-fn push_head(out: &mut Vec<u8>, major: u8, n: u64) -> Result<(), AllocError> {
-    if n < 24 {
-        out.push(major | n as u8)?;
-        return Ok(());
-    }
-    if let Ok(n) = u8::try_from(n) {
-        out.push(major | 24)?;
-        out.push(n)?;
-        return Ok(());
-    }
-    if let Ok(n) = u16::try_from(n) {
-        out.push(major | 25)?;
-        return out.extend_from_slice(&n.to_be_bytes());
-    }
-    if let Ok(n) = u32::try_from(n) {
-        out.push(major | 26)?;
-        return out.extend_from_slice(&n.to_be_bytes());
-    }
-    out.push(major | 27)?;
-    out.extend_from_slice(&n.to_be_bytes())
+fn push_head(out: &mut Vec<u8>, major: Major, n: u64) -> Result<(), AllocError> {
+    let octets = n.to_be_bytes();
+    let (info, rest) = match n {
+        0..=23 => (n as u8, &octets[8..]),
+        24..=0xFF => (24, &octets[7..]),
+        0x100..=0xFFFF => (25, &octets[6..]),
+        0x1_0000..=0xFFFF_FFFF => (26, &octets[4..]),
+        _ => (27, &octets[..]),
+    };
+    out.push(major as u8 | info)?;
+    out.extend_from_slice(rest)
 }
 
 // An entry with an unsigned number.
 fn push_number(out: &mut Vec<u8>, key: u64, n: u64) -> Result<(), AllocError> {
-    push_head(out, UNSIGNED, key)?;
-    push_head(out, UNSIGNED, n)
+    push_head(out, Major::Unsigned, key)?;
+    push_head(out, Major::Unsigned, n)
 }
 
 // An entry with octets: a byte string, or text.
-fn push_string(out: &mut Vec<u8>, key: u64, major: u8, held: &[u8]) -> Result<(), AllocError> {
-    push_head(out, UNSIGNED, key)?;
+fn push_string(out: &mut Vec<u8>, key: u64, major: Major, held: &[u8]) -> Result<(), AllocError> {
+    push_head(out, Major::Unsigned, key)?;
     push_head(out, major, held.len() as u64)?;
     out.extend_from_slice(held)
 }
 
 // The start of an entry with a map of so many entries.
 fn push_map(out: &mut Vec<u8>, key: u64, entries: u64) -> Result<(), AllocError> {
-    push_head(out, UNSIGNED, key)?;
-    push_head(out, MAP, entries)
+    push_head(out, Major::Unsigned, key)?;
+    push_head(out, Major::Map, entries)
 }
 
 // The type of a command and its arguments.
@@ -95,7 +86,7 @@ fn push_errand(out: &mut Vec<u8>, errand: Errand) -> Result<(), AllocError> {
             push_map(out, 1, 3)?;
             push_number(out, 0, 1)?;
             push_number(out, 1, 0)?;
-            push_string(out, 2, TEXT, text.as_bytes())
+            push_string(out, 2, Major::Text, text.as_bytes())
         }
         Errand::Rate(percent) => {
             push_number(out, 0, 12)?;
@@ -112,7 +103,7 @@ impl Draft {
         push_map(out, 2, entries)?;
         push_number(out, 0, self.epoch)?;
         push_number(out, 1, self.counter)?;
-        push_string(out, 2, BYTES, sid)?;
+        push_string(out, 2, Major::Bytes, sid)?;
         match self.expires {
             Some(time) => push_number(out, 3, time),
             None => Ok(()),
@@ -122,7 +113,7 @@ impl Draft {
     // The octets of the message.
     pub fn message(&self, heap: Global, sid: &[u8; 16]) -> Result<Vec<u8>, AllocError> {
         let mut out = Vec::new(heap);
-        push_head(&mut out, MAP, 5)?;
+        push_head(&mut out, Major::Map, 5)?;
         push_number(&mut out, 0, 1)?;
         push_number(&mut out, 1, 1)?;
         self.push_mid(&mut out, sid)?;
@@ -130,8 +121,8 @@ impl Draft {
         push_errand(&mut out, self.errand)?;
         push_map(&mut out, 4, 3)?;
         push_number(&mut out, 0, TAG_ALG)?;
-        push_string(&mut out, 1, BYTES, &self.kid)?;
-        push_string(&mut out, 2, BYTES, &self.tag)?;
+        push_string(&mut out, 1, Major::Bytes, &self.kid)?;
+        push_string(&mut out, 2, Major::Bytes, &self.tag)?;
         Ok(out)
     }
 }

@@ -1,72 +1,36 @@
 // Why the program ends with status 1.
 use answers::refusal::Refusal;
-use std::alloc::{AllocError, AllocFailed};
-use std::{fmt, io};
+use std::alloc::AllocError;
+use std::io;
+use thiserror::Error;
 
-#[derive(Drop)]
+#[derive(Debug, Drop, Error)]
 pub enum Failure {
-    // a word of the command line that is not known
+    #[error("unknown word: {0} (owac help lists the words)")]
     Unknown(String),
     // what the command line lacks
+    #[error("missing: {0}")]
     Missing(&'static str),
-    // words behind the last that the command takes
+    #[error("too many words")]
     Spare,
     // an option that is given twice
+    #[error("{0} is given twice")]
     Twice(&'static str),
     // an option, and a word that is no number
+    #[error("{0}: a number of 64 bits wanted, not {1:?}")]
     NotNumber(&'static str, String),
-    // both kinds of sheet
+    #[error("--verdicts and --tags exclude each other")]
     TwoSheets,
-    // a word in a catalog that is no number
+    // a word in a catalog
+    #[error("no track number in the catalog: {0:?}")]
     NotTrack(String),
     // a file that cannot be read or written
+    #[error("{0}: {1}")]
     File(String, io::Error),
-    Refused(Refusal),
-    Memory,
-    // standard input or output
-    Stream(io::Error),
-}
-
-impl fmt::Display for Failure {
-    fn fmt<W: fmt::Write>(&self, f: &mut fmt::Formatter<W>) -> fmt::Result {
-        match self {
-            Failure::Unknown(word) => {
-                write!(f, "unknown word: {word} (owac help lists the words)")
-            }
-            Failure::Missing(what) => write!(f, "missing: {what}"),
-            Failure::Spare => f.write_str("too many words"),
-            Failure::Twice(name) => write!(f, "{name} is given twice"),
-            Failure::NotNumber(name, word) => {
-                write!(f, "{name}: a number of 64 bits wanted, not {word:?}")
-            }
-            Failure::TwoSheets => f.write_str("--verdicts and --tags exclude each other"),
-            Failure::NotTrack(word) => write!(f, "no track number in the catalog: {word:?}"),
-            Failure::File(path, why) => write!(f, "{path}: {why}"),
-            Failure::Refused(refusal) => {
-                let number = refusal.number();
-                let name = refusal.name();
-                write!(f, "refused {number} {name}")
-            }
-            Failure::Memory => f.write_str("not enough memory"),
-            Failure::Stream(why) => write!(f, "standard input or output: {why}"),
-        }
-    }
-}
-
-impl From<io::Error> for Failure {
-    fn from(why: io::Error) -> Failure {
-        Failure::Stream(why)
-    }
-}
-
-impl From<AllocError> for Failure {
-    fn from(_why: AllocError) -> Failure {
-        Failure::Memory
-    }
-}
-
-impl<T: Drop> From<AllocFailed<T>> for Failure {
-    fn from(_why: AllocFailed<T>) -> Failure {
-        Failure::Memory
-    }
+    #[error("refused {} {}", .0.number(), .0)]
+    Refused(#[from] Refusal),
+    #[error("not enough memory")]
+    Memory(#[from(alloc)] AllocError),
+    #[error("standard input or output: {0}")]
+    Stream(#[from] io::Error),
 }

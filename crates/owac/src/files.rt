@@ -9,49 +9,36 @@ use std::io::{Seek, SeekFrom, Write};
 use std::{fs, io};
 use words::number::number;
 
-// A failure with a file.
-pub fn failed(heap: Global, path: &str, why: io::Error) -> Result<Failure, Failure> {
-    Ok(Failure::File(String::from_str(heap, path)?, why))
+// What came of a step on a file; a failure says on which.
+pub fn on<T>(heap: Global, path: &str, done: io::Result<T>) -> Result<T, Failure> {
+    done.try_map_err(|why| -> Result<Failure, Failure> {
+        Ok(Failure::File(String::from_str(heap, path)?, why))
+    })
 }
 
 // All octets of a file.
 pub fn read(rt: &HostRuntime, path: &str) -> Result<Vec<u8>, Failure> {
-    match fs::read(rt, path) {
-        Ok(octets) => Ok(octets),
-        Err(why) => Err(failed(rt.alloc(), path, why)?),
-    }
+    on(rt.alloc(), path, fs::read(rt, path))
 }
 
 // The track numbers in a file of text, with white space or commas between them.
 pub fn read_tracks(rt: &HostRuntime, path: &str) -> Result<Vec<u64>, Failure> {
     let heap = rt.alloc();
-    let text = match fs::read_to_string(rt, path) {
-        Ok(text) => text,
-        Err(why) => return Err(failed(heap, path, why)?),
-    };
-    let mut tracks = Vec::new(heap);
-    for words in text.as_str().split_whitespace() {
-        for word in words.split(',') {
-            if word.is_empty() {
-                continue;
-            }
-            let Some(track) = number(word) else {
-                return Err(Failure::NotTrack(String::from_str(heap, word)?));
-            };
-            tracks.push(track)?;
-        }
-    }
-    Ok(tracks)
+    let text = on(heap, path, fs::read_to_string(rt, path))?;
+    text.as_str()
+        .split(|c: char| c == ',' || c.is_whitespace())
+        .filter(|word| !word.is_empty())
+        .map(|word| -> Result<u64, Failure> {
+            number(word).try_ok_or_else(|| Ok(Failure::NotTrack(String::from_str(heap, word)?)))
+        })
+        .try_collect(heap)
 }
 
 // Opens a file for writing within it.
 pub fn open(rt: &HostRuntime, path: &str) -> Result<File, Failure> {
     let mut how = OpenOptions::new();
     how.write(true);
-    match how.open(rt, path) {
-        Ok(file) => Ok(file),
-        Err(why) => Err(failed(rt.alloc(), path, why)?),
-    }
+    on(rt.alloc(), path, how.open(rt, path))
 }
 
 // Writes octets at a place of a file, and waits until they are there to stay.
@@ -66,14 +53,9 @@ pub fn write(rt: &HostRuntime, message: &str, burst: &str) -> Result<(), Failure
     let heap = rt.alloc();
     let octets = read(rt, message)?;
     let mut out = Vec::from_elem(heap, 0u8, BURST_MOST)?;
-    let count = match burst::write(octets.as_slice(), out.as_mut_slice()) {
-        Ok(count) => count,
-        Err(refusal) => return Err(Failure::Refused(refusal)),
-    };
+    let count = burst::write(octets.as_slice(), out.as_mut_slice())?;
     out.truncate(count.div_ceil(8));
-    if let Err(why) = fs::write(rt, burst, out.as_slice()) {
-        return Err(failed(heap, burst, why)?);
-    }
+    on(heap, burst, fs::write(rt, burst, out.as_slice()))?;
     println!(rt; "{count} tones")?;
     Ok(())
 }

@@ -1,5 +1,6 @@
 // What the program can do, in short.
 use crate::failure::Failure;
+use std::fmt;
 
 // A word with what follows it, and what it does.
 struct Entry {
@@ -10,6 +11,13 @@ struct Entry {
 impl Entry {
     fn is_of(&self, word: &str) -> bool {
         self.usage.split_whitespace().next() == Some(word)
+    }
+}
+
+impl fmt::Display for Entry {
+    fn fmt<W: fmt::Write>(&self, f: &mut fmt::Formatter<W>) -> fmt::Result {
+        let Entry { usage, does } = self;
+        write!(f, "  {usage}: {does}")
     }
 }
 
@@ -136,15 +144,9 @@ const SCRIPT_WORDS: [Entry; 23] = [
     },
 ];
 
-fn print_entry(rt: &HostRuntime, entry: &Entry) -> Result<(), Failure> {
-    let Entry { usage, does } = entry;
-    println!(rt; "  {usage}: {does}")?;
-    Ok(())
-}
-
 fn print_entries(rt: &HostRuntime, entries: &[Entry]) -> Result<(), Failure> {
     for entry in entries {
-        print_entry(rt, entry)?;
+        println!(rt; "{entry}")?;
     }
     Ok(())
 }
@@ -159,24 +161,18 @@ pub fn print_all(rt: &HostRuntime) -> Result<(), Failure> {
     print_entries(rt, &SCRIPT_WORDS)
 }
 
-// Prints the entries of a word, and tells whether there are any.
-fn print_named(rt: &HostRuntime, entries: &[Entry], word: &str) -> Result<bool, Failure> {
-    let mut found = false;
-    for entry in entries {
-        if entry.is_of(word) {
-            print_entry(rt, entry)?;
-            found = true;
-        }
-    }
-    Ok(found)
-}
-
+// Prints the entries of a word.
 pub fn print_word(rt: &HostRuntime, word: &str) -> Result<(), Failure> {
-    let command = print_named(rt, &COMMANDS, word)?;
-    let script_word = print_named(rt, &SCRIPT_WORDS, word)?;
-    if command || script_word {
-        Ok(())
-    } else {
-        Err(Failure::Unknown(String::from_str(rt.alloc(), word)?))
+    let mut named = COMMANDS
+        .iter()
+        .chain(SCRIPT_WORDS.iter())
+        .filter(|entry| entry.is_of(word))
+        .peekable();
+    if named.peek().is_none() {
+        return Err(Failure::Unknown(String::from_str(rt.alloc(), word)?));
     }
+    for entry in named {
+        println!(rt; "{entry}")?;
+    }
+    Ok(())
 }

@@ -1,22 +1,14 @@
 // A job in an operator's words.
+use crate::shown::TrackName;
 use commands::request;
-use commands::types::{Request, Track};
-use items::types::Span;
+use commands::types::Request;
+use judging::answer::Release;
 use marks::mark::Position;
 use std::fmt;
 use std::str::from_utf8;
 
 // What stands for a control character of a text.
 const CONTROL: char = '.';
-
-// The octets of a span; none if it lies outside.
-pub fn part(octets: &[u8], span: Span) -> &[u8] {
-    let start = span.start;
-    if start > octets.len() || span.len > octets.len() - start {
-        return &octets[0..0];
-    }
-    &octets[start..start + span.len]
-}
 
 // A request, its position, and the message that it was read from.
 #[derive(Clone, Copy)]
@@ -26,13 +18,6 @@ pub struct Job<'a> {
     pub octets: &'a [u8],
 }
 
-// The track that a request names.
-#[derive(Clone, Copy)]
-struct TrackName<'a> {
-    track: Track,
-    octets: &'a [u8],
-}
-
 // When a queued track is due.
 #[derive(Clone, Copy)]
 struct Due {
@@ -40,28 +25,9 @@ struct Due {
     until: Option<u64>,
 }
 
-// A text to show.
+// A text, with a dot for each control character.
 #[derive(Clone, Copy)]
-struct Shown<'a> {
-    target: u8,
-    mode: u8,
-    text: &'a [u8],
-}
-
-impl fmt::Display for TrackName<'_> {
-    fn fmt<W: fmt::Write>(&self, f: &mut fmt::Formatter<W>) -> fmt::Result {
-        match self.track {
-            Track::Number(n) => write!(f, "{n}"),
-            Track::Octets(span) => {
-                f.write_str("x")?;
-                for octet in part(self.octets, span) {
-                    write!(f, "{octet:02X}")?;
-                }
-                Ok(())
-            }
-        }
-    }
-}
+struct Printable<'a>(&'a [u8]);
 
 impl fmt::Display for Due {
     fn fmt<W: fmt::Write>(&self, f: &mut fmt::Formatter<W>) -> fmt::Result {
@@ -75,31 +41,20 @@ impl fmt::Display for Due {
     }
 }
 
-impl fmt::Display for Shown<'_> {
+impl fmt::Display for Printable<'_> {
     fn fmt<W: fmt::Write>(&self, f: &mut fmt::Formatter<W>) -> fmt::Result {
-        let target = self.target;
-        let mode = self.mode;
-        write!(f, "text on {target} in mode {mode}: \"")?;
-        if let Ok(text) = from_utf8(self.text) {
-            for c in text.chars() {
-                let shown = if c.is_control() { CONTROL } else { c };
-                write!(f, "{shown}")?;
-            }
+        for c in from_utf8(self.0).unwrap_or("").chars() {
+            f.write_char(if c.is_control() { CONTROL } else { c })?;
         }
-        f.write_str("\"")
+        Ok(())
     }
 }
 
 impl<'a> Job<'a> {
     // The job of a message, if it can be read.
     pub fn read(octets: &'a [u8]) -> Option<Job<'a>> {
-        let Ok(message) = message::read(octets) else {
-            return None;
-        };
-        let view = message.view;
-        let Ok(request) = request(octets, view.cmd.kind, view.cmd.args.start) else {
-            return None;
-        };
+        let view = message::read(octets).ok()?.view;
+        let request = request(octets, view.cmd.kind, view.cmd.args.start).ok()?;
         let position = Position {
             epoch: view.mid.epoch,
             counter: view.mid.counter,
@@ -111,9 +66,21 @@ impl<'a> Job<'a> {
         })
     }
 
-    // What is asked for.
-    fn show_request<W: fmt::Write>(&self, f: &mut fmt::Formatter<W>) -> fmt::Result {
+    // The job that is released, in the work buffer with its message.
+    pub fn of(release: Release, octets: &'a [u8]) -> Job<'a> {
+        Job {
+            request: Request::from(release.command),
+            position: release.mark.position,
+            octets,
+        }
+    }
+}
+
+// What is asked for, and where it stands.
+impl fmt::Display for Job<'_> {
+    fn fmt<W: fmt::Write>(&self, f: &mut fmt::Formatter<W>) -> fmt::Result {
         let octets = self.octets;
+        // Kept: a request has two texts, this one and the script's in shown.rt: an operator and a script read words of their own.
         match self.request {
             Request::Heartbeat { time: None } => f.write_str("heartbeat"),
             Request::Heartbeat { time: Some(time) } => write!(f, "heartbeat of {time}"),
@@ -131,35 +98,19 @@ impl<'a> Job<'a> {
                 let track = TrackName { track, octets };
                 write!(f, "suggest track {track} with weight {weight}")
             }
+            Request::Remove { item } => write!(f, "remove item {item}"),
+            Request::State { state } => write!(f, "set state {state}"),
+            Request::Seek { milliseconds } => write!(f, "seek by {milliseconds} ms"),
+            Request::Rate { percent } => write!(f, "play at {percent} percent"),
+            Request::Next => f.write_str("next track"),
+            Request::Previous => f.write_str("previous track"),
             Request::Text { target, mode, text } => {
-                let text = part(octets, text);
-                let shown = Shown { target, mode, text };
-                write!(f, "{shown}")
+                let text = Printable(text.of(octets).unwrap_or(&[]));
+                write!(f, "text on {target} in mode {mode}: \"{text}\"")
             }
-            other => show_plain(f, other),
-        }
-    }
-}
-
-// A request of numbers alone.
-fn show_plain<W: fmt::Write>(f: &mut fmt::Formatter<W>, request: Request) -> fmt::Result {
-    match request {
-        Request::Remove { item } => write!(f, "remove item {item}"),
-        Request::State { state } => write!(f, "set state {state}"),
-        Request::Seek { milliseconds } => write!(f, "seek by {milliseconds} ms"),
-        Request::Rate { percent } => write!(f, "play at {percent} percent"),
-        Request::Next => f.write_str("next track"),
-        Request::Previous => f.write_str("previous track"),
-        Request::Reserved(kind) => write!(f, "reserved {kind}"),
-        _ => f.write_str("-"),
-    }
-}
-
-impl fmt::Display for Job<'_> {
-    fn fmt<W: fmt::Write>(&self, f: &mut fmt::Formatter<W>) -> fmt::Result {
-        self.show_request(f)?;
-        let epoch = self.position.epoch;
-        let counter = self.position.counter;
+            Request::Reserved(kind) => write!(f, "reserved {kind}"),
+        }?;
+        let Position { epoch, counter } = self.position;
         write!(f, " (epoch {epoch}, counter {counter})")
     }
 }

@@ -2,14 +2,17 @@
 ghost use Rattle.std.specs.Prelude.{◌≡◌, ℕ, ◌<◌, length, Decides, slice_index};
 
 use crate::arguments::Arguments;
+use crate::shown::Hex;
 use crate::unreadable::Unreadable;
 use line::heard::{Heard, Hearing};
 use line::{burst, check, frame};
-use std::alloc::{AllocError, Global};
-use words::hex;
+use std::fmt;
 
 // What lies in a buffer before a call.
 const FILLING: u8 = 0xA5;
+
+// The octets of the FCS behind a message.
+const FCS_OCTETS: usize = 2;
 
 // The most octets that a listening is given to work in; more would be of no use to it.
 pub const WORK_MOST: usize = 0x10_0000;
@@ -21,17 +24,36 @@ pub const BURST_MOST: usize = 2 * burst::LONGEST_MESSAGE + 64;
 fn is_filled(octets: &[u8], with: u8) -> bool
     ensures { Decides result ((k : ℕ) → k < length octets.now → slice_index octets.now k ≡ with) }
 {
-    for octet in octets {
-        if *octet != with {
-            return false;
+    octets.iter().all(|octet| *octet == with)
+}
+
+// What was heard, and the work buffer with the frame.
+#[derive(Clone, Copy)]
+pub struct Reception<'a> {
+    pub heard: Heard,
+    pub work: &'a [u8],
+}
+
+impl<'a> Reception<'a> {
+    // The first frame at or after a place.
+    pub fn new(burst: &[u8], count: usize, start: usize, work: &'a mut [u8]) -> Reception<'a> {
+        let heard = frame::hear(burst, count, start, work);
+        Reception { heard, work }
+    }
+
+    // The message of the frame, without its FCS.
+    pub fn message(self) -> Option<&'a [u8]> {
+        match self.heard.hearing {
+            Hearing::Frame(length) => self.work.get(..length.saturating_sub(FCS_OCTETS)),
+            Hearing::Quiet | Hearing::Refused(_) => None,
         }
     }
-    true
 }
 
 // `fcs HEX`
 pub fn fcs(words: &mut Arguments<'_>) -> Result<String, Unreadable> {
-    let message = words.last_octets()?;
+    let message = words.octets()?;
+    words.end()?;
     let fcs = check::fcs(message.as_slice());
     Ok(format!(in words.heap(); "fcs {fcs:04X}")?)
 }
@@ -43,19 +65,20 @@ pub fn write(words: &mut Arguments<'_>) -> Result<String, Unreadable> {
     words.end()?;
     let heap = words.heap();
     let mut out = Vec::from_elem(heap, FILLING, room)?;
-    match burst::write(message.as_slice(), out.as_mut_slice()) {
+    let text = match burst::write(message.as_slice(), out.as_mut_slice()) {
         Ok(count) => {
             let (octets, rest) = out.as_slice().split_at(count.div_ceil(8).min(room));
-            let octets = hex::text(heap, octets)?;
+            let octets = Hex(octets);
             let rest = untouched(rest);
-            Ok(format!(in heap; "burst {octets} count={count} rest={rest}")?)
+            format!(in heap; "burst {octets} count={count} rest={rest}")?
         }
         Err(refusal) => {
             let number = refusal.number();
             let rest = untouched(out.as_slice());
-            Ok(format!(in heap; "refused {number} rest={rest}")?)
+            format!(in heap; "refused {number} rest={rest}")?
         }
-    }
+    };
+    Ok(text)
 }
 
 // Whether octets are as they lay in the buffer before the call, in a word.
@@ -76,28 +99,33 @@ pub fn hear(words: &mut Arguments<'_>) -> Result<String, Unreadable> {
     words.end()?;
     let heap = words.heap();
     let mut work = Vec::from_elem(heap, FILLING, length)?;
-    let heard = frame::hear(burst.as_slice(), count, start, work.as_mut_slice());
-    Ok(heard_text(heap, heard, work.as_slice())?)
+    let reception = Reception::new(burst.as_slice(), count, start, work.as_mut_slice());
+    Ok(format!(in heap; "{reception}")?)
 }
 
-// What was heard, as a line.
-fn heard_text(heap: Global, heard: Heard, work: &[u8]) -> Result<String, AllocError> {
-    let next = heard.next;
-    let length = match heard.hearing {
-        Hearing::Frame(n) => n.min(work.len()),
-        _ => 0,
-    };
-    let (octets, rest) = work.split_at(length);
-    let rest = if is_filled(rest, 0) { "clean" } else { "dirty" };
-    match heard.hearing {
-        Hearing::Quiet => format!(in heap; "quiet next={next} work={rest}"),
-        Hearing::Refused(refusal) => {
-            let number = refusal.number();
-            format!(in heap; "refused {number} next={next} work={rest}")
-        }
-        Hearing::Frame(_) => {
-            let octets = hex::text(heap, octets)?;
-            format!(in heap; "frame next={next} length={length} octets={octets} work={rest}")
+// As a line, which tells too whether the work buffer holds zeros behind the frame.
+impl fmt::Display for Reception<'_> {
+    fn fmt<W: fmt::Write>(&self, f: &mut fmt::Formatter<W>) -> fmt::Result {
+        let next = self.heard.next;
+        let length = match self.heard.hearing {
+            Hearing::Frame(length) => length.min(self.work.len()),
+            Hearing::Quiet | Hearing::Refused(_) => 0,
+        };
+        let (octets, rest) = self.work.split_at(length);
+        let rest = if is_filled(rest, 0) { "clean" } else { "dirty" };
+        match self.heard.hearing {
+            Hearing::Quiet => write!(f, "quiet next={next} work={rest}"),
+            Hearing::Refused(refusal) => {
+                let number = refusal.number();
+                write!(f, "refused {number} next={next} work={rest}")
+            }
+            Hearing::Frame(_) => {
+                let octets = Hex(octets);
+                write!(
+                    f,
+                    "frame next={next} length={length} octets={octets} work={rest}"
+                )
+            }
         }
     }
 }

@@ -21,6 +21,7 @@ mod receiver_commands;
 mod script;
 mod sheet;
 mod sheet_commands;
+mod shown;
 mod store_commands;
 mod unreadable;
 
@@ -30,17 +31,14 @@ use std::process::ExitCode;
 
 // One word of the command line, or a failure that says what is wanted.
 fn next_word(words: &mut env::Args, wanted: &'static str) -> Result<String, Failure> {
-    match words.next() {
-        Some(word) => Ok(word),
-        None => Err(Failure::Missing(wanted)),
-    }
+    words.next().ok_or(Failure::Missing(wanted))
 }
 
 fn end(words: &mut env::Args) -> Result<(), Failure> {
-    match words.next() {
-        None => Ok(()),
-        Some(_) => Err(Failure::Spare),
+    if words.next().is_some() {
+        return Err(Failure::Spare);
     }
+    Ok(())
 }
 
 fn write(rt: &HostRuntime, words: &mut env::Args) -> Result<(), Failure> {
@@ -75,6 +73,7 @@ fn run(rt: &HostRuntime) -> Result<(), Failure> {
     let Some(word) = words.next() else {
         return demonstration::run(rt);
     };
+    // Kept: a table of words and functions would need one type of function, and a word behind three of these is a fault.
     match word.as_str() {
         "script" => {
             end(&mut words)?;

@@ -1,13 +1,15 @@
 // The marks in an image, as lines.
 use crate::failure::Failure;
+use crate::shown::Marked;
 use journal::journal::Journal;
 use marks::cells::Cells;
 use marks::image::ImageCells;
 use marks::mark::{Cell, CutLeaves, Record};
-use words::hex;
+use marks::power::Power;
+use std::fmt;
 
 // How many cells there are of each kind.
-#[derive(Drop)]
+#[derive(Clone, Copy, Default)]
 struct Tally {
     marks: u64,
     older: u64,
@@ -15,24 +17,26 @@ struct Tally {
     blank: u64,
 }
 
-// Prints a pair and its mark.
-fn print_record(rt: &HostRuntime, i: usize, record: Record) -> Result<(), Failure> {
-    let heap = rt.alloc();
-    let sid = hex::text(heap, &record.pair.sid)?;
-    let kid = hex::text(heap, &record.pair.kid)?;
-    let hash = hex::text(heap, &record.mark.hash)?;
-    let epoch = record.mark.position.epoch;
-    let counter = record.mark.position.counter;
-    println!(rt; "cell {i:>4}: sid={sid} kid={kid} epoch={epoch} counter={counter} hash={hash}")?;
-    Ok(())
+impl fmt::Display for Tally {
+    fn fmt<W: fmt::Write>(&self, f: &mut fmt::Formatter<W>) -> fmt::Result {
+        let Tally {
+            marks,
+            older,
+            torn,
+            blank,
+        } = self;
+        write!(
+            f,
+            "{marks} with marks, {older} with older records, {torn} torn, {blank} blank"
+        )
+    }
 }
 
 // Whether the cell is the one that gives its pair's mark.
 fn is_source<C: Cells>(journal: &Journal<C>, i: usize, record: Record) -> bool {
-    match journal.source(record.pair) {
-        Some(source) => source.cell == i,
-        None => false,
-    }
+    journal
+        .source(record.pair)
+        .is_some_and(|source| source.cell == i)
 }
 
 // Prints a cell, if it gives a mark or is torn, and counts it.
@@ -43,48 +47,38 @@ fn print_cell<C: Cells>(
     cell: Cell,
     tally: &mut Tally,
 ) -> Result<(), Failure> {
-    match cell {
-        Cell::Blank => tally.blank = tally.blank.saturating_add(1),
+    let count = match cell {
+        Cell::Blank => &mut tally.blank,
         Cell::Torn => {
-            tally.torn = tally.torn.saturating_add(1);
             println!(rt; "cell {i:>4}: torn")?;
+            &mut tally.torn
         }
         Cell::Held(record) if is_source(journal, i, record) => {
-            tally.marks = tally.marks.saturating_add(1);
-            print_record(rt, i, record)?;
+            println!(rt; "cell {i:>4}: {}", Marked(record))?;
+            &mut tally.marks
         }
-        Cell::Held(_) => tally.older = tally.older.saturating_add(1),
-    }
+        Cell::Held(_) => &mut tally.older,
+    };
+    *count = count.saturating_add(1);
     Ok(())
 }
 
 // Prints what an image holds: each pair that has a mark, with the cell that gives it; the torn cells; and how many there are
 // of each kind.
 pub fn print(rt: &HostRuntime, image: &mut [u8]) -> Result<(), Failure> {
-    let cells = ImageCells::new(image, false, 0, CutLeaves::Old);
-    let count = cells.count();
-    let mut read = Vec::new(rt.alloc());
-    for i in 0..count {
-        read.push(cells.read(i))?;
-    }
-    let journal = Journal::new(cells);
-    let mut tally = Tally {
-        marks: 0,
-        older: 0,
-        torn: 0,
-        blank: 0,
+    let power = Power {
+        on: false,
+        charge: 0,
+        leaves: CutLeaves::Old,
     };
+    let cells = ImageCells::new(image, power);
+    let count = cells.count();
+    let read: Vec<Cell> = (0..count).map(|i| cells.read(i)).collect(rt.alloc())?;
+    let journal = Journal::new(cells);
+    let mut tally = Tally::default();
     for (i, cell) in read.iter().enumerate() {
         print_cell(rt, &journal, i, *cell, &mut tally)?;
     }
-    let Tally {
-        marks,
-        older,
-        torn,
-        blank,
-    } = tally;
-    println!(rt;
-        "{count} cells: {marks} with marks, {older} with older records, {torn} torn, {blank} blank"
-    )?;
+    println!(rt; "{count} cells: {tally}")?;
     Ok(())
 }

@@ -1,28 +1,35 @@
 // A store of marks that outlasts single calls: memory, its power supply, a journal over it, floors on that, and a receiver
 // over them all where a call listens.
-ghost use Rattle.std.specs.Prelude.{◌≡◌, false, length};
+ghost use Rattle.std.specs.Prelude.{◌≡◌, ℕ, Some, None, Option, length, option_map, OnErr, unwrap_or};
 ghost use Rattle.journal.specs.Floors.{on_floor};
 ghost use Rattle.journal.specs.Journals.{state_in};
-ghost use Rattle.judging.specs.Inputs.{inputs_by};
+ghost use Rattle.judging.specs.Inputs.{inputs_of};
 ghost use Rattle.owac.specs.Calls.{Replies, CallMoves, on_floors};
+ghost use Rattle.owac.specs.Laid.{on_laid, under, height, LaidMoves};
 
+use crate::sheet::Sheet;
+use arrayvec::{ArrayVec, CapacityError};
+use commands::types::Command;
 use journal::floor::Floor;
 use journal::journal::Journal;
-use judging::answer::{Answer, Listening};
+use judging::answer::{Answer, Lent, Verdict};
 use marks::cells::Cells;
 use marks::image::ImageCells;
-use marks::mark::{Cell, CutLeaves, Mark, Pair, Raised};
+use marks::mark::{Cell, CutLeaves, Mark, Pair, Raised, Record};
+use marks::power::Power;
 use marks::store::Store;
 use marks::table::{TABLE_CELLS, TableCells};
 use receiver::receiver::Receiver;
-use std::alloc::{AllocError, Global};
-use verdicts::{VerdictSheet, Verifier};
+use verdicts::Verifier;
 
 // The octets of a cell in an image.
 pub const CELL_OCTETS: usize = 81;
 
 // The state of a torn cell in an image.
 const TORN: u8 = 0xFF;
+
+// The most floors that are laid on one store.
+const MOST_FLOORS: usize = 3;
 
 // Where marks are kept.
 #[derive(Drop)]
@@ -31,43 +38,14 @@ pub enum Memory {
     Table([Cell; TABLE_CELLS]),
 }
 
-// Power, the whole writes that it still lasts, and what a cut leaves.
-#[derive(Clone, Copy)]
-pub struct Supply {
-    pub on: bool,
-    pub charge: u64,
-    pub leaves: CutLeaves,
-}
-
-// The epochs of the floors, the lowest floor first.
-#[derive(Clone, Copy)]
-pub enum Floors {
-    Zero,
-    One(u64),
-    Two(u64, u64),
-    Three(u64, u64, u64),
-}
-
-impl Floors {
-    // One more on top, if there are fewer than three.
-    pub fn add(self, epoch: u64) -> Option<Floors> {
-        match self {
-            Floors::Zero => Some(Floors::One(epoch)),
-            Floors::One(a) => Some(Floors::Two(a, epoch)),
-            Floors::Two(a, b) => Some(Floors::Three(a, b, epoch)),
-            Floors::Three(_, _, _) => None,
-        }
-    }
-}
-
-// One call of a store, or of the receiver over it.
-#[derive(Clone, Copy)]
-pub enum Call {
+// One call of a store, or of the receiver over it, with what a listening is lent besides a buffer to work in.
+#[derive(Drop)]
+pub enum Call<'a, V> {
     Raise(Pair, Mark),
     SwitchOn(u64),
     ReadMark(Pair),
     HasRoom(Pair),
-    Listen(Listening),
+    Listen(Lent<'a, V>),
 }
 
 // What is answered.
@@ -80,22 +58,96 @@ pub enum Reply {
     Heard(Answer),
 }
 
-// What a listening is lent, besides a buffer to work in.
+impl Reply {
+    // The command that is released, if one is.
+    pub fn released(self) -> Option<Command> {
+        match self {
+            Reply::Heard(
+                Answer {
+                    verdict: Verdict::Released(release),
+                    ..
+                },
+            ) => Some(release.command),
+            _ => None,
+        }
+    }
+}
+
+// A store, bare or under a floor.
 #[derive(Drop)]
-pub struct Lent<'a, V> {
-    pub verifier: &'a V,
-    pub burst: &'a [u8],
-    pub catalog: &'a [u64],
+enum Laid<S: Store> {
+    Bare(S),
+    Floored(Floor<S>),
+}
+
+impl<S: Store> Laid<S> {
+    fn new(store: S, floor: Option<u64>) -> Laid<S>
+        ensures under { under result ≡ store }
+        ensures height { height result ≡ floor }
+    {
+        match floor {
+            None => Laid::Bare(store),
+            Some(epoch) => Laid::Floored(Floor::new(store, epoch)),
+        }
+    }
+
+    // The store back.
+    fn into_store(self) -> S
+        ensures { result ≡ under self }
+    {
+        match self {
+            Laid::Bare(store) => store,
+            Laid::Floored(floor) => floor.into_store(),
+        }
+    }
+}
+
+// Calls the store itself, or the floor on it.
+macro_rules! call_laid {
+    ($laid:expr, $store:ident => $call:expr) => {
+        match $laid {
+            Laid::Bare($store) => $call,
+            Laid::Floored($store) => $call,
+        }
+    };
+}
+
+impl<S: Store> Store for Laid<S> {
+    ghost state = { λ s. on_laid (height s) (S.Store.state (under s)) };
+
+    ghost touches = { λ s t. LaidMoves (S.Store.touches (under s) (under t)) (height s) (height t) };
+
+    ghost rests = { λ s t. LaidMoves (S.Store.rests (under s) (under t)) (height s) (height t) };
+
+    fn mark(&self, pair: Pair) -> Option<Mark> {
+        call_laid!(self, store => store.mark(pair))
+    }
+
+    fn has_room(&self, pair: Pair) -> bool {
+        call_laid!(self, store => store.has_room(pair))
+    }
+
+    fn is_on(&self) -> bool {
+        call_laid!(self, store => store.is_on())
+    }
+
+    fn charge(&self) -> u64 {
+        call_laid!(self, store => store.charge())
+    }
+
+    fn raise(&mut self, pair: Pair, new: Mark) -> Raised {
+        call_laid!(self, store => store.raise(pair, new))
+    }
+
+    fn switch_on(&mut self, n: u64) {
+        call_laid!(self, store => store.switch_on(n))
+    }
 }
 
 // Makes a call of any store, which a receiver holds while it listens.
-fn call_store<S: Store, V: Verifier>(
-    mut store: S,
-    call: Call,
-    lent: &Lent<'_, V>,
-    work: &mut [u8],
-) -> (S, Reply)
-    ensures replies { Replies (λ l. inputs_by V.Verifier.known V.Verifier.good lent.now.verifier.now lent.now.burst.now l lent.now.catalog.now (length work.old)) (S.Store.state store) call result.1 (S.Store.state result.0) }
+// Kept: the buffer stays beside the call, here and below: only the caller reads it after the call, which is used up.
+fn call_store<S: Store, V: Verifier>(mut store: S, call: Call<'_, V>, work: &mut [u8]) -> (S, Reply)
+    ensures replies { Replies (λ lent. inputs_of V.Verifier.known V.Verifier.good lent (length work.old)) (S.Store.state store) call.entry result.1 (S.Store.state result.0) }
     ensures memory { CallMoves S.Store.touches S.Store.rests store result.1 result.0 }
 {
     match call {
@@ -115,178 +167,105 @@ fn call_store<S: Store, V: Verifier>(
             let room = store.has_room(pair);
             (store, Reply::Room(room))
         }
-        Call::Listen(listening) => {
+        Call::Listen(lent) => {
             let mut receiver = Receiver::new(store);
-            let answer = receiver.listen(lent.verifier, lent.burst, listening, lent.catalog, work);
+            let answer = receiver.listen(&lent, work);
             (receiver.into_store(), Reply::Heard(answer))
         }
     }
 }
 
-// Makes a call of a floor laid on any store, and takes it off again.
-fn call_one<S: Store, V: Verifier>(
-    store: S,
-    low: u64,
-    call: Call,
-    lent: &Lent<'_, V>,
-    work: &mut [u8],
-) -> (S, Reply)
-    ensures replies { Replies (λ l. inputs_by V.Verifier.known V.Verifier.good lent.now.verifier.now lent.now.burst.now l lent.now.catalog.now (length work.old)) (on_floor low (S.Store.state store)) call result.1 (on_floor low (S.Store.state result.0)) }
-    ensures memory { CallMoves S.Store.touches S.Store.rests store result.1 result.0 }
-{
-    let (pile, reply) = call_store(Floor::new(store, low), call, lent, work);
-    (pile.into_store(), reply)
-}
-
-// The same with a second floor on top.
-fn call_two<S: Store, V: Verifier>(
-    store: S,
-    low: u64,
-    high: u64,
-    call: Call,
-    lent: &Lent<'_, V>,
-    work: &mut [u8],
-) -> (S, Reply)
-    ensures replies { Replies (λ l. inputs_by V.Verifier.known V.Verifier.good lent.now.verifier.now lent.now.burst.now l lent.now.catalog.now (length work.old)) (on_floor high (on_floor low (S.Store.state store))) call result.1 (on_floor high (on_floor low (S.Store.state result.0))) }
-    ensures memory { CallMoves S.Store.touches S.Store.rests store result.1 result.0 }
-{
-    let (pile, reply) = call_one(Floor::new(store, low), high, call, lent, work);
-    (pile.into_store(), reply)
-}
-
-// The same with a third.
-fn call_three<S: Store, V: Verifier>(
-    store: S,
-    low: u64,
-    middle: u64,
-    high: u64,
-    call: Call,
-    lent: &Lent<'_, V>,
-    work: &mut [u8],
-) -> (S, Reply)
-    ensures replies { Replies (λ l. inputs_by V.Verifier.known V.Verifier.good lent.now.verifier.now lent.now.burst.now l lent.now.catalog.now (length work.old)) (on_floor high (on_floor middle (on_floor low (S.Store.state store)))) call result.1 (on_floor high (on_floor middle (on_floor low (S.Store.state result.0)))) }
-    ensures memory { CallMoves S.Store.touches S.Store.rests store result.1 result.0 }
-{
-    let (pile, reply) = call_two(Floor::new(store, low), middle, high, call, lent, work);
-    (pile.into_store(), reply)
-}
-
-// Makes a call of the floors laid on any store, and takes them off again.
+// Makes a call of the floors laid on any store, the lowest first, and takes them off again.
 fn call_floors<S: Store, V: Verifier>(
     store: S,
-    floors: Floors,
-    call: Call,
-    lent: &Lent<'_, V>,
+    floors: &ArrayVec<u64, MOST_FLOORS>,
+    call: Call<'_, V>,
     work: &mut [u8],
 ) -> (S, Reply)
-    ensures replies { Replies (λ l. inputs_by V.Verifier.known V.Verifier.good lent.now.verifier.now lent.now.burst.now l lent.now.catalog.now (length work.old)) (on_floors floors (S.Store.state store)) call result.1 (on_floors floors (S.Store.state result.0)) }
+    ensures replies { Replies (λ lent. inputs_of V.Verifier.known V.Verifier.good lent (length work.old)) (on_floors floors.now.items (S.Store.state store)) call.entry result.1 (on_floors floors.now.items (S.Store.state result.0)) }
     ensures memory { CallMoves S.Store.touches S.Store.rests store result.1 result.0 }
 {
-    match floors {
-        Floors::Zero => call_store(store, call, lent, work),
-        Floors::One(a) => call_one(store, a, call, lent, work),
-        Floors::Two(a, b) => call_two(store, a, b, call, lent, work),
-        Floors::Three(a, b, c) => call_three(store, a, b, c, call, lent, work),
-    }
+    let epochs = floors.as_slice();
+    let low = Laid::new(store, epochs.first().copied());
+    let middle = Laid::new(low, epochs.get(1).copied());
+    let high = Laid::new(middle, epochs.get(2).copied());
+    let (high, reply) = call_store(high, call, work);
+    let middle = high.into_store();
+    let low = middle.into_store();
+    (low.into_store(), reply)
 }
 
-// What a call leaves of cells and journal.
-struct Left<C> {
-    cells: C,
+// What a store goes on with from call to call, besides its memory.
+#[derive(Drop)]
+struct Works {
+    power: Power,
     last: Option<usize>,
-    reply: Reply,
+    floors: ArrayVec<u64, MOST_FLOORS>,
 }
 
-// Makes a call of the floors on a journal over any cells.
-fn call_cells<C: Cells, V: Verifier>(
-    cells: C,
-    last: Option<usize>,
-    floors: Floors,
-    call: Call,
-    lent: &Lent<'_, V>,
-    work: &mut [u8],
-) -> Left<C>
-    ensures replies { Replies (λ l. inputs_by V.Verifier.known V.Verifier.good lent.now.verifier.now lent.now.burst.now l lent.now.catalog.now (length work.old)) (on_floors floors (state_in (C.Cells.device cells))) call result.reply (on_floors floors (state_in (C.Cells.device result.cells))) }
-    ensures memory { CallMoves C.Cells.touches C.Cells.rests cells result.reply result.cells }
-{
-    let journal = Journal::resume(cells, last);
-    let (journal, reply) = call_floors(journal, floors, call, lent, work);
-    let last = journal.written_last();
-    Left {
-        cells: journal.into_cells(),
-        last,
-        reply,
+impl Works {
+    // Makes a call of the floors on a journal over any cells, and goes on from it.
+    fn call<C: Cells, V: Verifier>(
+        &mut self,
+        cells: C,
+        call: Call<'_, V>,
+        work: &mut [u8],
+    ) -> (C, Reply)
+        ensures replies { Replies (λ lent. inputs_of V.Verifier.known V.Verifier.good lent (length work.old)) (on_floors self.old.floors.items (state_in (C.Cells.device cells))) call.entry result.1 (on_floors self.old.floors.items (state_in (C.Cells.device result.0))) }
+        ensures memory { CallMoves C.Cells.touches C.Cells.rests cells result.1 result.0 }
+        ensures floors { self.new.floors ≡ self.old.floors }
+    {
+        let journal = Journal::resume(cells, self.last);
+        let (journal, reply) = call_floors(journal, &self.floors, call, work);
+        self.last = journal.written_last();
+        self.power.on = journal.is_on();
+        self.power.charge = journal.charge();
+        (journal.into_cells(), reply)
     }
 }
 
 #[derive(Drop)]
 pub struct Pile {
     memory: Memory,
-    supply: Supply,
-    last: Option<usize>,
-    floors: Floors,
+    works: Works,
 }
 
 impl Pile {
-    pub fn new(memory: Memory, supply: Supply) -> Pile {
+    pub fn new(memory: Memory, power: Power) -> Pile {
         Pile {
             memory,
-            supply,
-            last: None,
-            floors: Floors::Zero,
+            works: Works {
+                power,
+                last: None,
+                floors: ArrayVec::new(),
+            },
         }
     }
 
     // Lays a floor on top, if there are fewer than three.
-    pub fn lay(&mut self, epoch: u64) -> bool
-        ensures { result ≡ false → self.new ≡ self.old }
+    pub fn lay(&mut self, epoch: u64) -> Result<(), CapacityError<u64>>
+        ensures { OnErr result (self.new ≡ self.old) }
     {
-        match self.floors.add(epoch) {
-            Some(floors) => {
-                self.floors = floors;
-                true
-            }
-            None => false,
-        }
+        self.works.floors.try_push(epoch)
     }
 
-    // Makes one call that is lent nothing.
-    pub fn call(&mut self, call: Call) -> Reply {
-        let sheet = VerdictSheet::new(&[]);
-        let lent = Lent {
-            verifier: &sheet,
-            burst: &[],
-            catalog: &[],
-        };
-        let mut work = [0u8; 0];
-        self.carry_out(call, &lent, &mut work)
+    // Makes one call that needs no buffer to work in.
+    pub fn call(&mut self, call: Call<'_, Sheet>) -> Reply {
+        self.carry_out(call, &mut [])
     }
 
     // Makes one call. Memory, power and journal go on from it.
-    pub fn carry_out<V: Verifier>(
-        &mut self,
-        call: Call,
-        lent: &Lent<'_, V>,
-        work: &mut [u8],
-    ) -> Reply {
-        let Supply { on, charge, leaves } = self.supply;
+    pub fn carry_out<V: Verifier>(&mut self, call: Call<'_, V>, work: &mut [u8]) -> Reply {
+        let power = self.works.power;
         match &mut self.memory {
             Memory::Image(octets) => {
-                let cells = ImageCells::new(octets.as_mut_slice(), on, charge, leaves);
-                let left = call_cells(cells, self.last, self.floors, call, lent, work);
-                let Left { cells, last, reply } = left;
-                self.last = last;
-                self.supply.on = cells.is_on();
-                self.supply.charge = cells.charge();
+                let cells = ImageCells::new(octets.as_mut_slice(), power);
+                let (_, reply) = self.works.call(cells, call, work);
                 reply
             }
             Memory::Table(held) => {
-                let cells = TableCells::with_cells(*held, on, charge, leaves);
-                let left = call_cells(cells, self.last, self.floors, call, lent, work);
-                let Left { cells, last, reply } = left;
-                self.last = last;
-                self.supply.on = cells.is_on();
-                self.supply.charge = cells.charge();
+                let cells = TableCells::with_cells(*held, power);
+                let (cells, reply) = self.works.call(cells, call, work);
                 *held = cells.into_cells();
                 reply
             }
@@ -299,27 +278,37 @@ impl Pile {
 
     // The cell that was written last since the store was made or switched on.
     pub fn written_last(&self) -> Option<usize>
-        ensures { result ≡ self.now.last }
+        ensures { result ≡ self.now.works.last }
     {
-        self.last
+        self.works.last
+    }
+
+    // The octets of a cell, if the memory is an image that has it.
+    pub fn octets_at(&self, cell: usize) -> Option<&[u8]> {
+        match &self.memory {
+            Memory::Image(image) => image.as_slice().chunks_exact(CELL_OCTETS).nth(cell),
+            Memory::Table(_) => None,
+        }
     }
 }
 
-// A table's cells as the image that holds the same.
-pub fn table_image(heap: Global, cells: &[Cell; TABLE_CELLS]) -> Result<Vec<u8>, AllocError> {
-    let mut octets = Vec::from_elem(heap, 0u8, TABLE_CELLS * CELL_OCTETS)?;
-    for i in 0..TABLE_CELLS {
-        if let Cell::Torn = cells[i] {
-            if let Some(state) = octets.get_mut(i * CELL_OCTETS) {
-                *state = TORN;
-            }
-        }
+// The octets of a cell as they lie in an image.
+pub fn octets_of(cell: &Cell) -> [u8; CELL_OCTETS] {
+    let mut octets = [0u8; CELL_OCTETS];
+    match cell {
+        Cell::Blank => {}
+        Cell::Torn => octets[0] = TORN,
+        Cell::Held(record) => write_record(&mut octets, *record),
     }
-    let mut image = ImageCells::new(octets.as_mut_slice(), true, u64::MAX, CutLeaves::Old);
-    for i in 0..TABLE_CELLS {
-        if let Cell::Held(record) = cells[i] {
-            let _ = image.write(i, record);
-        }
-    }
-    Ok(octets)
+    octets
+}
+
+// Writes a record into the octets of a cell.
+fn write_record(octets: &mut [u8], record: Record) {
+    let power = Power {
+        on: true,
+        charge: 1,
+        leaves: CutLeaves::Old,
+    };
+    let _ = ImageCells::new(octets, power).write(0, record);
 }

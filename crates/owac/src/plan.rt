@@ -35,7 +35,7 @@ impl Time {
 }
 
 // How a burst comes over the line.
-#[derive(Clone, Copy)]
+#[derive(Clone, Copy, PartialEq, Eq)]
 pub enum Line {
     Clear,
     Damaged,
@@ -55,6 +55,16 @@ pub struct Step {
     pub event: Event,
     // what an operator should know
     pub note: &'static str,
+}
+
+impl Step {
+    // The job, if its tag is on the sheet.
+    pub fn listed(&self) -> Option<&Draft> {
+        match &self.event {
+            Event::Job(draft, _) if draft.listed => Some(draft),
+            _ => None,
+        }
+    }
 }
 
 // A job that is signed and has no expiry.
@@ -80,26 +90,21 @@ fn job(hour: u8, minute: u8, draft: Draft, line: Line, note: &'static str) -> St
 
 // A job that came too late.
 fn late() -> Draft {
-    let mut draft = signed(7, 5, Errand::Text("Doors open at eight"));
     let eight = Time { hour: 8, minute: 0 };
-    draft.expires = Some(eight.clock());
-    draft
+    Draft {
+        expires: Some(eight.clock()),
+        ..signed(7, 5, Errand::Text("Doors open at eight"))
+    }
 }
 
-// A job of a key that the house does not know.
-fn strange() -> Draft {
-    let mut draft = signed(7, 5, Errand::Rate(200));
-    draft.kid = OTHER_KEY;
-    draft.listed = false;
-    draft
-}
-
-// A job whose tag was made up.
-fn forged() -> Draft {
-    let mut draft = signed(7, 5, Errand::Rate(200));
-    draft.tag = OTHER_TAG;
-    draft.listed = false;
-    draft
+// A job whose key or tag the house does not know.
+fn unlisted(kid: [u8; 16], tag: [u8; 16]) -> Draft {
+    Draft {
+        kid,
+        tag,
+        listed: false,
+        ..signed(7, 5, Errand::Rate(200))
+    }
 }
 
 // The morning: power lasts for four writes.
@@ -123,6 +128,8 @@ pub fn morning() -> [Step; 12] {
     );
     let news = signed(7, 3, Errand::Text("News at noon"));
     let rate = signed(7, 4, Errand::Rate(105));
+    let strange = unlisted(OTHER_KEY, TAG);
+    let forged = unlisted(KEY, OTHER_TAG);
     [
         job(6, 0, first, Line::Clear, ""),
         job(6, 30, queue, Line::Clear, ""),
@@ -133,8 +140,8 @@ pub fn morning() -> [Step; 12] {
         job(8, 1, rate, Line::Doubted, ", the line is in doubt"),
         job(8, 2, rate, Line::Clear, ""),
         job(9, 0, late(), Line::Clear, ", expired at 08:00"),
-        job(9, 30, strange(), Line::Clear, ", of an unknown key"),
-        job(9, 45, forged(), Line::Clear, ", its tag made up"),
+        job(9, 30, strange, Line::Clear, ", of an unknown key"),
+        job(9, 45, forged, Line::Clear, ", its tag made up"),
         job(10, 0, first, Line::Clear, ", from before"),
     ]
 }

@@ -1,11 +1,11 @@
 // Commands on a receiver: the catalog, and listening.
 use crate::arguments::Arguments;
-use crate::message_commands::request_text;
+use crate::shown::{Asked, Brief};
 use crate::unreadable::Unreadable;
-use commands::types::{Command, Request, Track};
+use commands::types::Request;
 use judging::answer::{Answer, Listening, Release, Verdict};
-use std::alloc::{AllocError, Global};
-use words::hex;
+use marks::mark::Record;
+use std::fmt;
 use words::number::number;
 
 // A listening, with its burst and the octets of its work buffer.
@@ -46,75 +46,45 @@ pub fn listen(words: &mut Arguments<'_>) -> Result<Heed, Unreadable> {
 pub fn catalog(words: &mut Arguments<'_>) -> Result<Vec<u64>, Unreadable> {
     let list = words.word()?;
     words.end()?;
-    let mut tracks = Vec::new(words.heap());
+    let heap = words.heap();
     if list == "-" {
-        return Ok(tracks);
+        return Ok(Vec::new(heap));
     }
-    for word in list.split(',') {
-        match number(word) {
-            Some(track) => tracks.push(track)?,
-            None => return Err(Unreadable::NotNumber),
-        }
-    }
-    Ok(tracks)
+    list.split(',')
+        .map(|word| number(word).ok_or(Unreadable::NotNumber))
+        .try_collect(heap)
 }
 
 // An answer as a line.
-pub fn answer_text(heap: Global, answer: Answer) -> Result<String, AllocError> {
-    let next = answer.next;
-    match answer.verdict {
-        Verdict::Quiet => format!(in heap; "quiet next={next}"),
-        Verdict::Duplicate => format!(in heap; "duplicate next={next}"),
-        Verdict::Refused(refusal) => {
-            let number = refusal.number();
-            format!(in heap; "refused {number} next={next}")
-        }
-        Verdict::Released(release) => {
-            let release = release_text(heap, release)?;
-            format!(in heap; "released next={next} {release}")
+#[derive(Clone, Copy)]
+pub struct Answered(pub Answer);
+
+impl fmt::Display for Answered {
+    fn fmt<W: fmt::Write>(&self, f: &mut fmt::Formatter<W>) -> fmt::Result {
+        let Answer { verdict, next } = self.0;
+        match verdict {
+            Verdict::Quiet => write!(f, "quiet next={next}"),
+            Verdict::Duplicate => write!(f, "duplicate next={next}"),
+            Verdict::Refused(refusal) => write!(f, "refused {} next={next}", refusal.number()),
+            Verdict::Released(release) => write!(f, "released next={next} {}", brief(release)),
         }
     }
 }
 
-// What is released.
-fn release_text(heap: Global, release: Release) -> Result<String, AllocError> {
-    let sid = hex::text(heap, &release.pair.sid)?;
-    let kid = hex::text(heap, &release.pair.kid)?;
-    let hash = hex::text(heap, &release.mark.hash)?;
-    let epoch = release.mark.position.epoch;
-    let counter = release.mark.position.counter;
-    let length = release.length;
-    let command = request_text(heap, &[], request_of(release.command))?;
-    format!(in heap;
-        "sid={sid} kid={kid} epoch={epoch} counter={counter} hash={hash} length={length} command={command}"
-    )
-}
-
-// The request that a command answers.
-pub fn request_of(command: Command) -> Request {
-    match command {
-        Command::Heartbeat { time } => Request::Heartbeat { time },
-        Command::Queue {
-            track,
-            priority,
-            earliest,
-            until,
-        } => Request::Queue {
-            track: Track::Number(track),
-            priority,
-            earliest,
-            until,
+// What is released. The tracks of a command are numbers, so it needs no octets.
+fn brief(release: Release) -> Brief<'static> {
+    let Release {
+        pair,
+        mark,
+        length,
+        command,
+    } = release;
+    Brief {
+        record: Record { mark, pair },
+        length,
+        asked: Asked {
+            request: Request::from(command),
+            octets: &[],
         },
-        Command::Suggest { track, weight } => Request::Suggest {
-            track: Track::Number(track),
-            weight,
-        },
-        Command::Remove { item } => Request::Remove { item },
-        Command::State { state } => Request::State { state },
-        Command::Seek { milliseconds } => Request::Seek { milliseconds },
-        Command::Rate { percent } => Request::Rate { percent },
-        Command::Next => Request::Next,
-        Command::Previous => Request::Previous,
-        Command::Text { target, mode, text } => Request::Text { target, mode, text },
     }
 }

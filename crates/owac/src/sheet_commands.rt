@@ -1,7 +1,7 @@
 // Commands on a sheet.
 use crate::arguments::Arguments;
-use crate::octet_commands::yes_no;
 use crate::sheet::Sheet;
+use crate::shown::YesNo;
 use crate::unreadable::Unreadable;
 use verdicts::{Transcript, Verifier};
 
@@ -21,41 +21,42 @@ fn read_key(words: &mut Arguments<'_>) -> Result<Key, Unreadable> {
 
 // `verdicts HEX`
 pub fn verdicts(words: &mut Arguments<'_>) -> Result<Sheet, Unreadable> {
-    Ok(Sheet::Verdicts(words.last_octets()?))
+    let rows = words.octets()?;
+    words.end()?;
+    Ok(Sheet::Verdicts(rows))
 }
 
 // `tags HEX`
 pub fn tags(words: &mut Arguments<'_>) -> Result<Sheet, Unreadable> {
-    Ok(Sheet::Tags(words.last_octets()?))
+    let rows = words.octets()?;
+    words.end()?;
+    Ok(Sheet::Tags(rows))
 }
 
 // `known KID ALG`. No sheet knows an alg beyond an octet.
 pub fn known(words: &mut Arguments<'_>, sheet: &Sheet) -> Result<String, Unreadable> {
     let Key { kid, alg } = read_key(words)?;
     words.end()?;
-    let answer = match u8::try_from(alg) {
-        Ok(alg) => sheet.knows(&kid, alg),
-        Err(_) => false,
-    };
-    Ok(yes_no(words.heap(), "known", answer)?)
+    let answer = YesNo(u8::try_from(alg).is_ok_and(|alg| sheet.knows(&kid, alg)));
+    Ok(format!(in words.heap(); "known {answer}")?)
 }
 
 // `good KID ALG TRANSCRIPT SIGNATURE`
 pub fn good(words: &mut Arguments<'_>, sheet: &Sheet) -> Result<String, Unreadable> {
-    let key = read_key(words)?;
+    let Key { kid, alg } = read_key(words)?;
     let transcript = words.octets()?;
-    let signature = words.last_octets()?;
+    let signature = words.octets()?;
+    words.end()?;
     let [head, rest @ ..] = transcript.as_slice() else {
         return Err(Unreadable::EmptyTranscript);
     };
     let transcript = Transcript::new(&[], *head, rest, &[]);
-    let answer = is_good(sheet, key, &transcript, signature.as_slice());
-    Ok(yes_no(words.heap(), "good", answer)?)
-}
-
-fn is_good(sheet: &Sheet, key: Key, transcript: &Transcript<'_>, signature: &[u8]) -> bool {
-    match u8::try_from(key.alg) {
-        Ok(alg) => sheet.is_good(&key.kid, alg, transcript, signature),
-        Err(_) => false,
-    }
+    let signature = signature.as_slice();
+    let answer = YesNo(u8::try_from(alg).is_ok_and(|alg| sheet.is_good(
+        &kid,
+        alg,
+        &transcript,
+        signature,
+    )));
+    Ok(format!(in words.heap(); "good {answer}")?)
 }

@@ -1,16 +1,17 @@
 // Commands on a store of marks.
 use crate::arguments::Arguments;
-use crate::octet_commands::yes_no;
-use crate::pile::{Call, Memory, Pile, Reply, Supply, table_image};
-use crate::receiver_commands::answer_text;
+use crate::pile::{Call, Memory, Pile, Reply, octets_of};
+use crate::receiver_commands::Answered;
+use crate::sheet::Sheet;
+use crate::shown::{Hex, YesNo};
 use crate::unreadable::Unreadable;
 use marks::mark::{Cell, CutLeaves, Mark, Pair, Position, Raised};
+use marks::power::Power;
 use marks::table::TABLE_CELLS;
-use std::alloc::{AllocError, Global};
-use words::hex;
+use std::fmt;
 
 // `power=on|off charge=N cut=old|new|torn`, which ends the line.
-fn supply(words: &mut Arguments<'_>) -> Result<Supply, Unreadable> {
+fn power(words: &mut Arguments<'_>) -> Result<Power, Unreadable> {
     let on = match words.option("power")? {
         "on" => true,
         "off" => false,
@@ -24,25 +25,27 @@ fn supply(words: &mut Arguments<'_>) -> Result<Supply, Unreadable> {
         _ => return Err(Unreadable::NoChoice("old|new|torn")),
     };
     words.end()?;
-    Ok(Supply { on, charge, leaves })
+    Ok(Power { on, charge, leaves })
 }
 
-// `image HEX` and its supply.
+// `image HEX` and its power.
 pub fn image(words: &mut Arguments<'_>) -> Result<Pile, Unreadable> {
     let octets = words.octets()?;
-    let supply = supply(words)?;
-    Ok(Pile::new(Memory::Image(octets), supply))
+    let power = power(words)?;
+    Ok(Pile::new(Memory::Image(octets), power))
 }
 
-// `table` and its supply.
+// `table` and its power.
 pub fn table(words: &mut Arguments<'_>) -> Result<Pile, Unreadable> {
-    let supply = supply(words)?;
-    Ok(Pile::new(Memory::Table([Cell::Blank; TABLE_CELLS]), supply))
+    let power = power(words)?;
+    Ok(Pile::new(Memory::Table([Cell::Blank; TABLE_CELLS]), power))
 }
 
 // `floor EPOCH`
 pub fn floor(words: &mut Arguments<'_>) -> Result<u64, Unreadable> {
-    words.last_number()
+    let epoch = words.number()?;
+    words.end()?;
+    Ok(epoch)
 }
 
 // `SID KID`
@@ -52,13 +55,6 @@ fn pair(words: &mut Arguments<'_>) -> Result<Pair, Unreadable> {
     Ok(Pair { sid, kid })
 }
 
-// `SID KID`, which end the line.
-fn last_pair(words: &mut Arguments<'_>) -> Result<Pair, Unreadable> {
-    let pair = pair(words)?;
-    words.end()?;
-    Ok(pair)
-}
-
 // `EPOCH COUNTER`
 fn position(words: &mut Arguments<'_>) -> Result<Position, Unreadable> {
     let epoch = words.number()?;
@@ -66,47 +62,56 @@ fn position(words: &mut Arguments<'_>) -> Result<Position, Unreadable> {
     Ok(Position { epoch, counter })
 }
 
-// `EPOCH COUNTER HASH`, which end the line.
-fn last_mark(words: &mut Arguments<'_>) -> Result<Mark, Unreadable> {
+// `EPOCH COUNTER HASH`
+fn new_mark(words: &mut Arguments<'_>) -> Result<Mark, Unreadable> {
     let position = position(words)?;
     let hash = words.array::<32>()?;
-    words.end()?;
     Ok(Mark { position, hash })
 }
 
 // `raise SID KID EPOCH COUNTER HASH`
-fn raise(words: &mut Arguments<'_>) -> Result<Call, Unreadable> {
+fn raise(words: &mut Arguments<'_>) -> Result<Call<'static, Sheet>, Unreadable> {
     let pair = pair(words)?;
-    Ok(Call::Raise(pair, last_mark(words)?))
+    let mark = new_mark(words)?;
+    words.end()?;
+    Ok(Call::Raise(pair, mark))
 }
 
 // `on N`
-fn on(words: &mut Arguments<'_>) -> Result<Call, Unreadable> {
-    Ok(Call::SwitchOn(words.last_number()?))
+fn on(words: &mut Arguments<'_>) -> Result<Call<'static, Sheet>, Unreadable> {
+    let writes = words.number()?;
+    words.end()?;
+    Ok(Call::SwitchOn(writes))
 }
 
 // `mark SID KID`
-fn mark(words: &mut Arguments<'_>) -> Result<Call, Unreadable> {
-    Ok(Call::ReadMark(last_pair(words)?))
+fn mark(words: &mut Arguments<'_>) -> Result<Call<'static, Sheet>, Unreadable> {
+    let pair = pair(words)?;
+    words.end()?;
+    Ok(Call::ReadMark(pair))
 }
 
 // `room SID KID`
-fn room(words: &mut Arguments<'_>) -> Result<Call, Unreadable> {
-    Ok(Call::HasRoom(last_pair(words)?))
+fn room(words: &mut Arguments<'_>) -> Result<Call<'static, Sheet>, Unreadable> {
+    let pair = pair(words)?;
+    words.end()?;
+    Ok(Call::HasRoom(pair))
 }
 
 // A call of the store, if the word is for one.
-pub fn call(word: &str, words: &mut Arguments<'_>) -> Result<Option<Call>, Unreadable> {
-    match word {
-        "raise" => Ok(Some(raise(words)?)),
-        "on" => Ok(Some(on(words)?)),
-        "mark" => Ok(Some(mark(words)?)),
-        "room" => Ok(Some(room(words)?)),
+pub fn call(words: &mut Arguments<'_>) -> Result<Option<Call<'static, Sheet>>, Unreadable> {
+    // Kept: a table of four words and functions is no shorter.
+    match words.command() {
+        "raise" => raise(words).map(Some),
+        "on" => on(words).map(Some),
+        "mark" => mark(words).map(Some),
+        "room" => room(words).map(Some),
         _ => Ok(None),
     }
 }
 
-// How a raise ended, in a word.
+// How a raise ended, in a script's word.
+// Kept: a script and an operator read words of their own; demonstration.rt has the other table.
 fn raised_word(raised: Raised) -> &'static str {
     match raised {
         Raised::Off => "off",
@@ -118,36 +123,34 @@ fn raised_word(raised: Raised) -> &'static str {
 }
 
 // A reply as a line.
-pub fn reply_text(heap: Global, reply: Reply) -> Result<String, AllocError> {
-    match reply {
-        Reply::Raised(raised) => {
-            let word = raised_word(raised);
-            format!(in heap; "raise {word}")
+impl fmt::Display for Reply {
+    fn fmt<W: fmt::Write>(&self, f: &mut fmt::Formatter<W>) -> fmt::Result {
+        match self {
+            Reply::Raised(raised) => write!(f, "raise {}", raised_word(*raised)),
+            Reply::On => f.write_str("on"),
+            Reply::Mark(None) => f.write_str("mark -"),
+            Reply::Mark(Some(mark)) => {
+                let Position { epoch, counter } = mark.position;
+                write!(f, "mark {epoch} {counter} {}", Hex(&mark.hash))
+            }
+            Reply::Room(answer) => write!(f, "room {}", YesNo(*answer)),
+            Reply::Heard(answer) => write!(f, "{}", Answered(*answer)),
         }
-        Reply::On => String::from_str(heap, "on"),
-        Reply::Mark(None) => String::from_str(heap, "mark -"),
-        Reply::Mark(Some(mark)) => {
-            let epoch = mark.position.epoch;
-            let counter = mark.position.counter;
-            let hash = hex::text(heap, &mark.hash)?;
-            format!(in heap; "mark {epoch} {counter} {hash}")
-        }
-        Reply::Room(answer) => yes_no(heap, "room", answer),
-        Reply::Heard(answer) => answer_text(heap, answer),
     }
 }
 
 // Memory as a line; a table in the layout of an image.
-pub fn memory_text(heap: Global, memory: &Memory) -> Result<String, AllocError> {
-    match memory {
-        Memory::Image(octets) => {
-            let octets = hex::text(heap, octets.as_slice())?;
-            format!(in heap; "image {octets}")
-        }
-        Memory::Table(cells) => {
-            let octets = table_image(heap, cells)?;
-            let octets = hex::text(heap, octets.as_slice())?;
-            format!(in heap; "table {octets}")
+impl fmt::Display for Memory {
+    fn fmt<W: fmt::Write>(&self, f: &mut fmt::Formatter<W>) -> fmt::Result {
+        match self {
+            Memory::Image(octets) => write!(f, "image {}", Hex(octets.as_slice())),
+            Memory::Table(cells) => {
+                f.write_str("table ")?;
+                for cell in cells {
+                    write!(f, "{}", Hex(&octets_of(cell)))?;
+                }
+                Ok(())
+            }
         }
     }
 }

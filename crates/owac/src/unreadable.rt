@@ -1,57 +1,35 @@
 // Why a line of a script cannot be carried out.
-use std::alloc::{AllocError, AllocFailed};
-use std::fmt;
+use std::alloc::AllocError;
+use thiserror::Error;
 
-#[derive(Drop)]
+#[derive(Debug, Drop, Error)]
 pub enum Unreadable {
+    #[error("not text")]
     NotText,
+    #[error("unknown word")]
     UnknownWord,
+    #[error("a word is missing")]
     MissingWord,
+    #[error("too many words")]
     SpareWords,
+    #[error("hexadecimal octets wanted")]
     NotHex,
-    // so many octets are wanted
+    #[error("{0} octets wanted")]
     WrongLength(usize),
+    #[error("a number of 64 bits wanted")]
     NotNumber,
-    // an option, NAME=.., is wanted
+    // the name of an option
+    #[error("{0}= wanted")]
     NoOption(&'static str),
-    // one of these words is wanted
+    // the words that are known
+    #[error("one of {0} wanted")]
     NoChoice(&'static str),
+    #[error("a transcript has octets")]
     EmptyTranscript,
+    #[error("no image or table yet")]
     NoStore,
+    #[error("a floor stands right behind image or table, three at most")]
     MisplacedFloor,
-    NoMemory,
-}
-
-impl fmt::Display for Unreadable {
-    fn fmt<W: fmt::Write>(&self, f: &mut fmt::Formatter<W>) -> fmt::Result {
-        match self {
-            Unreadable::NotText => f.write_str("not text"),
-            Unreadable::UnknownWord => f.write_str("unknown word"),
-            Unreadable::MissingWord => f.write_str("a word is missing"),
-            Unreadable::SpareWords => f.write_str("too many words"),
-            Unreadable::NotHex => f.write_str("hexadecimal octets wanted"),
-            Unreadable::WrongLength(n) => write!(f, "{n} octets wanted"),
-            Unreadable::NotNumber => f.write_str("a number of 64 bits wanted"),
-            Unreadable::NoOption(name) => write!(f, "{name}= wanted"),
-            Unreadable::NoChoice(words) => write!(f, "one of {words} wanted"),
-            Unreadable::EmptyTranscript => f.write_str("a transcript has octets"),
-            Unreadable::NoStore => f.write_str("no image or table yet"),
-            Unreadable::MisplacedFloor => {
-                f.write_str("a floor stands right behind image or table, three at most")
-            }
-            Unreadable::NoMemory => f.write_str("not enough memory"),
-        }
-    }
-}
-
-impl From<AllocError> for Unreadable {
-    fn from(_why: AllocError) -> Unreadable {
-        Unreadable::NoMemory
-    }
-}
-
-impl<T: Drop> From<AllocFailed<T>> for Unreadable {
-    fn from(_why: AllocFailed<T>) -> Unreadable {
-        Unreadable::NoMemory
-    }
+    #[error("not enough memory")]
+    NoMemory(#[from(alloc)] AllocError),
 }
