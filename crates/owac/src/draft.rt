@@ -1,14 +1,6 @@
 // Jobs as a sender writes them: a message's octets, signed with a tag.
+use items::types::Major;
 use std::alloc::{AllocError, Global};
-
-// The major types that are written, each as the first octet of a head with the argument 0.
-#[derive(Clone, Copy)]
-enum Major {
-    Unsigned = 0x00,
-    Bytes = 0x40,
-    Text = 0x60,
-    Map = 0xA0,
-}
 
 // The alg that is signed with tags.
 const TAG_ALG: u64 = 3;
@@ -45,7 +37,7 @@ fn push_head(out: &mut Vec<u8>, major: Major, n: u64) -> Result<(), AllocError> 
         0x1_0000..=0xFFFF_FFFF => (26, &octets[4..]),
         _ => (27, &octets[..]),
     };
-    out.push(major as u8 | info)?;
+    out.push((major as u8) << 5 | info)?;
     out.extend_from_slice(rest)
 }
 
