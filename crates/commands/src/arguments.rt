@@ -71,7 +71,8 @@ impl<'a> Arguments<'a> {
     }
 
     // An unsigned number that may be absent.
-    // Kept: `None` says here too that the argument is not as asked, and `Some(None)` that it is absent, which may be.
+    // Kept: the outer `None` says, as in every method here, that the argument is not as asked, and `Some(None)` that it is absent,
+    // which may be. A `Result` for this one alone would have to be turned back into an `Option` at each use.
     #[tactic(auto, unfolding(crate::specs::Arguments::optional_in))]
     pub(crate) fn optional(&self, key: u64) -> Option<Option<u64>>
         ensures { result ≡ optional_in (source_of self.now) key }

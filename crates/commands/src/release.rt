@@ -22,7 +22,7 @@ impl Request {
     }
 
     // The command, if its type is neither 30 nor 31 and any track is a number in the catalog.
-    // Kept: it goes the other way than `Request::from`, and may refuse: each has a line for each type.
+    // Kept: a line for each type, since requests and commands are two types, for the reason that stands at `Command`.
     fn command(self, catalog: &[u64]) -> Option<Command>
         ensures { result ≡ (if not_reserved self && tracks_listed catalog.now self then command_of self else None) }
     {
@@ -69,7 +69,7 @@ impl Request {
 }
 
 // The request whose command it is: its own arguments, and a track as a number.
-// Kept: it goes the other way than `command`, and always answers: each has a line for each type.
+// Kept: a line for each type, since requests and commands are two types, for the reason that stands at `Command`.
 impl From<Command> for Request {
     ghost from_gives = { λ command request. command_of request ≡ Some command };
 

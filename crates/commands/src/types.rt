@@ -2,7 +2,6 @@
 use items::types::Span;
 
 /// A track: its number, or a byte string in the octets.
-// Kept: the rules list both kinds of track, and neither is a failure.
 #[derive(Clone, Copy)]
 pub enum Track {
     Number(u64),
@@ -50,7 +49,8 @@ pub enum Request {
 }
 
 /// A command that is released: its own arguments and no others, as numbers. The text is given by its place in the octets.
-// Kept: the command record has one case of numbers for each command type.
+// Kept: a rule of the project: the released command has one case of numbers for each command type and can hold nothing else, where
+// a request may name its track by octets or be of a reserved type. One generic enum would show a type parameter to every host.
 #[derive(Clone, Copy)]
 pub enum Command {
     Heartbeat {

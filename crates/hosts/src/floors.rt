@@ -28,7 +28,8 @@ fn listen_over<S: Store, V: Verifier>(store: S, lent: &Lent<'_, V>, work: &mut [
 }
 
 /// The same, under a floor of this epoch if there is one.
-// Kept: a store and that store under a floor are two types, and no closure takes both: here and below each has its own arm.
+// Kept: an arm for each, here and below. `Floor` has its epoch by value, as the rules have it; one type for a store with or without
+// a floor would be a third `Store` beside it.
 pub fn listen_under<S: Store, V: Verifier>(
     store: S,
     floor: Option<u64>,

@@ -19,7 +19,7 @@ use marks::store::Store;
 use verdicts::Verifier;
 
 // Hands the image back.
-// Kept: written out in the call that lends the image, here and below, nothing tells a proof that the image then holds what
+// Kept: tried with the body in the call that lends the image, here and below: nothing then tells a proof that the image holds what
 // `into_image` hands back.
 fn listen_on<'a, V: Verifier>(
     image: &'a mut [u8],

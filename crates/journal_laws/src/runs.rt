@@ -23,6 +23,8 @@ pub fn carry_out<S: Store>(store: &mut S, call: Call) -> Reply
 }
 
 // Calls one after another, until calls or places for replies end; says how many were carried out.
+// Kept: the run of calls on a receiver has the same `min`, `for` and assignment. A generic run would take the step as a closure that
+// changes store and buffer, and promise a chain of `F.step` over calls and replies, of which each would still have to prove its `Ran`.
 pub fn run<S: Store>(store: &mut S, calls: &[Call], replies: &mut [Reply]) -> usize
     ensures ran { Ran S.state S.touches S.rests store.old calls.now replies.old result replies.new store.new }
     ensures rising { (q : Pair) → NotLower ((S.state store.old).mark q) ((S.state store.new).mark q) }

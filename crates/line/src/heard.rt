@@ -1,7 +1,8 @@
 // What is heard of a burst.
 use answers::refusal::Refusal;
 
-// Kept: the rules list what is heard by its cases.
+// Kept: the public call answers this, case by case as the rules list them: no frame, a refusal, a frame. Inside, a
+// `Result<Option<Body>, Flaw>` is handed on.
 #[derive(Clone, Copy, Debug, PartialEq, Eq)]
 pub enum Hearing {
     // no frame begins here

@@ -32,9 +32,11 @@ pub enum Sign {
 
 // `ones` counts the 1s in a row behind a 0; hunting, 7 stands for more than six, or for no 0 yet.
 // `fresh` says that no 0 was kept since the boundary, `broken` that the body is not the stuffed form of anything.
-// Kept: `fresh` beside `boundary`. As one value, an enum of the last 0 (none, kept, removed), which was proved, it is picked anew at each
-// bit, and hears more slowly: in 0.87 to 1.10 of a plain program's time, by where the code was placed, and this form in 0.72 to 1.04.
-// Kept: 7 in `ones`. It counts as the other numbers do, and an Option around it is no plainer, since each test unpacks it first.
+// Kept: `fresh` beside `boundary`. As one value, an enum of the last 0 (none, kept, removed), which was proved, it is chosen again at each
+// bit of a body by a branch or a select, where `fresh` takes one `&` and `boundary` stays. It is slower in the rows "hear it" of
+// docs/performance.md: 0.87 to 1.10 of a plain program's time, by where the code was placed, and this form 0.72 to 1.04.
+// Kept: 7 in `ones`, where the count of a hunting listener stops. An `Option` around it is no plainer: each test and each step would
+// unpack it first.
 #[derive(Clone, Copy)]
 pub struct Listener {
     phase: Phase,

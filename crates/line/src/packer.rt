@@ -5,7 +5,7 @@ ghost use Rattle.line.specs.Packing.{held};
 
 // How far a buffer is filled: whole octets, and the low bits of the next one.
 // Kept: the buffer is a parameter of `push`. Held here it is no plainer: the way through a body begins anew at each flag, over the
-// same buffer, and would have to hand it back on every way out.
+// same buffer, and would have to hand the buffer back, as `ToneWriter` does, on each of its four ways out.
 #[derive(Clone, Copy)]
 pub struct Packer {
     octets: usize,

@@ -35,9 +35,9 @@ impl Flaw {
     }
 }
 
-// Kept: burst and count are two parameters here and below. A struct of both is no plainer: `hear` and `admit` take them apart, and
-// what ties them is asked twice only.
 // The place behind the first flag at or after start.
+// Kept: burst and count are two parameters, here and below. `hear` and `admit` are public and take them apart, with any count; a struct
+// that holds its count to its burst could be made only behind `admit`, for these two functions alone.
 pub(crate) fn first_flag_end(burst: &[u8], count: usize, start: usize) -> Option<usize>
     requires within { count ≤ 8 * length burst.now }
     requires order { start ≤ count }

@@ -39,7 +39,6 @@ impl<'a> ToneWriter<'a> {
         ensures behind { count self.old ≤ 8 * length self.old.out.now
             → drop (octet_count (count self.old)) self.new.out.now ≡ drop (octet_count (count self.old)) self.old.out.now }
     {
-        // Kept: the packer says how many tones are left, and no index is counted.
         while self.packer.fill() > 0 {
             self.packer.push(self.out, self.tone);
         }

@@ -43,7 +43,7 @@ impl TableCells {
     }
 }
 
-// Kept: what this has as `ImageCells` does is a test or a call of `Power`; one type over two memories would need a trait with as many members.
+// Kept: what it shares with `ImageCells` is a test or a call of `Power`; one type over two memories would need a trait with as many members.
 impl Cells for TableCells {
     ghost device = { λ t. device_of t.cells t.power.on t.power.charge };
 

@@ -49,7 +49,7 @@ impl<'a> Entries<'a> {
     }
 
     // The value of this key, which the next entry has.
-    // Kept: a reader takes octets and a place, and not the entries: those of `items`, which come with them, are passed here as they are.
+    // Kept: `read` takes octets and a place, and not the entries, so that the readers of `items` can be passed here as they are.
     pub(crate) fn required<T, F: Fn(&[u8], usize) -> Option<(T, usize)>>(
         &mut self,
         key: u64,

@@ -1,7 +1,6 @@
 // What a receiver is asked, and what it replies.
 use judging::answer::{Answer, Lent};
 
-// Kept: no outcome and its absence: two calls, each with what it takes.
 /// A call with inputs of its own. `work` is how many octets of the buffer it is lent to work in, if there are so many.
 #[derive(Drop)]
 pub enum Call<'a, V> {
@@ -9,7 +8,6 @@ pub enum Call<'a, V> {
     SwitchOn(u64),
 }
 
-// Kept: each call has its own reply; `None` of an answer would not say which.
 #[derive(Clone, Copy)]
 pub enum Reply {
     Heard(Answer),

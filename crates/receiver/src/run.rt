@@ -27,8 +27,9 @@ pub fn carry_out<S: Store, V: Verifier>(
     }
 }
 
-// Kept: the run of calls on a store alone has the same `for`, and nothing else of it: each tells a history of its own kind.
 /// Carries out calls until they or the places for replies end, and says how many. The run is a lawful history.
+// Kept: the run of calls on a store alone has the same `min`, `for` and assignment. A generic run would take the step as a closure that
+// changes store and buffer, and promise a chain of `F.step` over calls and replies, of which each would still have to prove its `Ran`.
 pub fn run<S: Store, V: Verifier>(
     receiver: &mut Receiver<S>,
     calls: &[Call<'_, V>],
