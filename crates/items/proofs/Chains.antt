@@ -4,9 +4,8 @@ use Rattle.std.proofs.lemmas.Slice.Eq.{bytes_eq-Decides}
 use Rattle.std.proofs.lemmas.Bool.{and_parts, or_from, or_left, or_right, cases_Bool, true≢false, eq-eqb}
 use Rattle.std.proofs.lemmas.Bool.Decides.{nat_tests, eqb_tells}
 use Rattle.std.specs.Str.{bytes_eq}
-use Rattle.items.specs.declared.types.Keys.{Keys}
 use Rattle.items.specs.Keys.{span, before, above, has, chain, judged}
-use Rattle.items.specs.Stored.{keys_of, held, Kept}
+use Rattle.items.specs.Stored.{keys_of, Kept}
 
 not_before : (xs : List ℕ) → before xs xs ≡ false
 not_before [] = refl
@@ -95,34 +94,30 @@ above-last os ps qs n k some =
 pub judged-new : (ks : List (List ℕ)) (k : List ℕ) (u : Bool) → u ≡ above ks k → has ks k ≡ false → Some u ≡ judged ks k
 judged-new ks k u e h = rw (h, e)
 
-module _ (os : List ℕ) (old : Keys) (kept : Kept os old) (room : old.count < 64) (p q : ℕ) (le : p ≤ q) (in-it : q ≤ length os) where
-  abbrev stored : Bool → Keys
-  stored b = record { starts = set old.starts old.count p; ends = set old.ends old.count q; count = old.count + 1; sorted = b }
+module _ (os ps qs : List ℕ) (n : ℕ) (sorted : Bool) (kept : Kept os ps qs n sorted) (room : n < 64) (p q : ℕ) (le : p ≤ q) (in-it : q ≤ length os) where
+  pub held_new : keys_of os (set ps n p) (set qs n q) (n + 1) ≡ span os p q ∷ keys_of os ps qs n
+  held_new = keys_add os ps qs n p q (omega (arith, kept.starts_long)) (omega (arith, kept.ends_long))
 
-  pub held_new : (b : Bool) → held os (stored b) ≡ span os p q ∷ held os old
-  unfolding held
-  held_new b = keys_add os old.starts old.ends old.count p q (omega (arith, kept.starts_long)) (omega (arith, kept.ends_long))
-
-  at_new : (i : ℕ) → i < old.count + 1 → (get_or (set old.starts old.count p) i 0 ≤ get_or (set old.ends old.count q) i 0) × (get_or (set old.ends old.count q) i 0 ≤ length os)
+  at_new : (i : ℕ) → i < n + 1 → (get_or (set ps n p) i 0 ≤ get_or (set qs n q) i 0) × (get_or (set qs n q) i 0 ≤ length os)
   at_new i l = ⊎_elim
       (λ z.
-      let a : get_or (set old.starts old.count p) i 0 ≡ p = ap (λ j. get_or (set old.starts old.count p) j 0) z.1 ∙ get_or-set_same old.starts old.count p 0 (omega (arith, kept.starts_long)) in
-      let b : get_or (set old.ends old.count q) i 0 ≡ q = ap (λ j. get_or (set old.ends old.count q) j 0) z.1 ∙ get_or-set_same old.ends old.count q 0 (omega (arith, kept.ends_long)) in
+      let a : get_or (set ps n p) i 0 ≡ p = ap (λ j. get_or (set ps n p) j 0) z.1 ∙ get_or-set_same ps n p 0 (omega (arith, kept.starts_long)) in
+      let b : get_or (set qs n q) i 0 ≡ q = ap (λ j. get_or (set qs n q) j 0) z.1 ∙ get_or-set_same qs n q 0 (omega (arith, kept.ends_long)) in
       (omega arith, omega arith))
       (λ z.
-      let ne : i ≢ old.count = z.1 in
-      let a = get_or-set_other old.starts old.count i p 0 ne in
-      let b = get_or-set_other old.ends old.count i q 0 ne in
-      let k : i < old.count = omega arith in
+      let ne : i ≢ n = z.1 in
+      let a = get_or-set_other ps n i p 0 ne in
+      let b = get_or-set_other qs n i q 0 ne in
+      let k : i < n = omega arith in
       (omega (arith, a, b, kept.ordered i k), omega (arith, b, kept.within i k)))
-      (eqb_tells i old.count)
+      (eqb_tells i n)
 
-  pub kept_new : (b : Bool) → b ≡ (old.sorted && above (held os old) (span os p q)) → Kept os (stored b)
+  pub kept_new : (b : Bool) → b ≡ (sorted && above (keys_of os ps qs n) (span os p q)) → Kept os (set ps n p) (set qs n q) (n + 1) b
   kept_new b is = record {
     few = omega arith;
     ordered = λ i l. (at_new i l).0;
     within = λ i l. (at_new i l).1;
-    sorted_is = is ∙ ap (λ s. s && above (held os old) (span os p q)) kept.sorted_is ∙ ap chain (sym (held_new b));
-    starts_long = length-set old.starts old.count p ∙ kept.starts_long;
-    ends_long = length-set old.ends old.count q ∙ kept.ends_long;
+    sorted_is = is ∙ ap (λ s. s && above (keys_of os ps qs n) (span os p q)) kept.sorted_is ∙ ap chain (sym held_new);
+    starts_long = length-set ps n p ∙ kept.starts_long;
+    ends_long = length-set qs n q ∙ kept.ends_long;
   }

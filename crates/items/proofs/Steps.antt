@@ -160,10 +160,6 @@ module _ (f : Walk → Result Walk Fault) (os : List ℕ) (n room i : ℕ) (ks :
         pub entries_on : (v : Walk) → f (also u up) ≡ Ok v → entries_of f os (n - i) (room - i) ks w ≡ later (key_from os w u) v
         entries_on v vs = entries_three ∙ ap (λ r. after r (later (key_from os w u))) vs
 
--- the same of equal octets
-pub entries_over : (d n room : ℕ) (w : Walk) {os os' : List ℕ} {r : Result Walk Fault} → os ≡ os' → entries_of (item_of d os) os n room [] w ≡ r → entries_of (item_of d os') os' n room [] w ≡ r
-entries_over d n room w same came = ap (λ o. entries_of (item_of d o) o n room [] w) (sym same) ∙ came
-
 -- an item does not go back
 abbrev Fwd : ℕ → Result Walk Fault → Type 0
 Fwd p (Ok v) = p ≤ v.place

@@ -1,5 +1,6 @@
 pub mod Keys
 pub mod Stored
+pub mod Held
 pub mod Heads
 pub mod Reading
 pub mod Walks

@@ -3,9 +3,8 @@ ghost use Rattle.std.specs.Prelude.{◌≡◌, []};
 ghost use Rattle.items.specs.Reading.{item_of, items_of, entries_of, start_at, array_items, map_entries};
 ghost use Rattle.items.specs.Walks.{walk, Told};
 
-use crate::keys::{add, no_keys};
 use crate::reader::Reader;
-use crate::types::{Fault, MAP_ENTRIES, Major};
+use crate::types::{Fault, Keys, MAP_ENTRIES, Major};
 
 // The most items of a message, keys and containers counted.
 const ITEMS: u16 = 1024;
@@ -65,7 +64,7 @@ impl<'a> Walker<'a> {
         }
         self.left -= 1;
         let head = self.reader.head()?;
-        self.deterministic = self.deterministic & head.shortest;
+        self.deterministic &= head.shortest;
         let inner = depth.checked_sub(1).ok_or(Fault::Malformed);
         match head.major {
             Major::Unsigned | Major::Negative => Ok(()),
@@ -100,18 +99,14 @@ impl<'a> Walker<'a> {
         ensures octets { self.new.reader.octets.now ≡ self.old.reader.octets.now }
         ensures is { Told result (entries_of (item_of depth self.old.reader.octets.now) self.old.reader.octets.now count map_entries [] (walk self.old)) (walk self.new) }
     {
-        let octets = self.reader.octets();
-        let mut keys = no_keys(octets);
+        let mut keys = Keys::new(self.reader.octets());
         for i in 0..count {
             if i == MAP_ENTRIES as u64 {
                 return Err(self.reader.fault());
             }
             let start = self.reader.place();
             self.item(depth)?;
-            let ascends = add(&mut keys, octets, start, self.reader.place()).ok_or(
-                Fault::Malformed,
-            )?;
-            self.deterministic = self.deterministic & ascends;
+            self.deterministic &= keys.add(start, self.reader.place())?;
             self.item(depth)?;
         }
         Ok(())

@@ -1,5 +1,5 @@
 use Rattle.std.proofs.Common.{◌≡◌, ◌+◌, ◌-◌, ◌*◌, ◌≤◌, []}
-use Rattle.items.specs.Stored.{held, Kept}
+use Rattle.items.specs.Held.{held}
 use Rattle.items.specs.Reading.{item_of, items_of, entries_of, array_items, map_entries}
 use Rattle.items.specs.Walks.{walk}
 use Rattle.items.proofs.item.Walker.+array_items_item_map_entries.Given as goal
@@ -25,9 +25,9 @@ invariant-array_items-loop-i l =
 -- the same of a map's entries, behind the keys that are kept
 abbrev pub invariant-map_entries-loop-i : goal.invariant-map_entries-loop-i
 invariant-map_entries-loop-i l =
-    (l.self.reader.octets.now ≡ l.octets)
+    (l.self.reader.octets.now ≡ l.initial.self.reader.octets.now)
+    × (l.keys.octets.now ≡ l.initial.self.reader.octets.now)
     × (l.i ≤ map_entries)
-    × Kept l.octets l.keys
     × (l.keys.count ≡ l.i)
-    × (entries_of (item_of l.depth l.octets) l.octets (l.count - l.i) (map_entries - l.i) (held l.octets l.keys) (walk l.self)
-    ≡ entries_of (item_of l.depth l.octets) l.octets l.count map_entries [] (walk l.initial.self))
+    × (entries_of (item_of l.depth l.initial.self.reader.octets.now) l.initial.self.reader.octets.now (l.count - l.i) (map_entries - l.i) (held l.keys) (walk l.self)
+    ≡ entries_of (item_of l.depth l.initial.self.reader.octets.now) l.initial.self.reader.octets.now l.count map_entries [] (walk l.initial.self))
