@@ -54,8 +54,8 @@ fn behind_tails(first: u8, octets: &[u8]) -> Option<&[u8]>
     }
 }
 
-// Kept: `str::from_utf8` answers the same, as `utf8` says; the rules give text by its table of octets, so each bound of the table stands here and is tried by an edit.
 /// Whether the octets are UTF-8: whole characters, none overlong, no surrogate, none above 10FFFF.
+// Kept: `str::from_utf8` answers the same, as clause `utf8` says; the table stands here so that each of its bounds can be turned by an edit and is refused.
 pub fn is_text(octets: &[u8]) -> bool
     ensures is { result ≡ is_text octets.now }
     ensures utf8 { TextIsUtf8 }
