@@ -1,5 +1,5 @@
 -- What a verdict sheet means. A row has 82 octets: kind, kid (16), alg, SHA-256 of the transcript (32), SHA-256 of the signature (32).
-use Rattle.std.specs.Prelude.{ℕ, Bool, cond, ◌&&◌, List, ◌==◌, Some, None, Option, slice_index}
+use Rattle.std.specs.Prelude.{◌≡◌, Result, MatchResult, ℕ, Bool, cond, ◌&&◌, List, ◌==◌, Some, None, Option, slice_index}
 use Rattle.std.specs.List.{list_any}
 use Rattle.std.specs.Str.{bytes_eq}
 use Rattle.sha256.specs.Sha256.{sha256_of}
@@ -10,6 +10,10 @@ use Rattle.verdicts.specs.Rows.{rows_of, field}
 -- the kind that a row's first octet names, if it names one
 abbrev pub kind_of : ℕ → Option Kind
 kind_of octet = cond (octet == 0x00) (Some Pin) (cond (octet == 0x01) (Some Yes) None)
+
+-- an octet is read as the kind that it names
+abbrev pub Names : ℕ → Result Kind Unit → Type 0
+Names octet r = MatchResult r (λ kind. kind_of octet ≡ Some kind) (λ _. kind_of octet ≡ None)
 
 -- a pin row (kind 00) of this kid and alg; its last 64 octets mean nothing
 abbrev pub is_pin : List ℕ → ℕ → List ℕ → Bool

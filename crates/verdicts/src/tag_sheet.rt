@@ -12,6 +12,12 @@ use crate::verifier::Verifier;
 // The octets of a row.
 const ROW: usize = 64;
 
+// Where a row's hash of a transcript begins, behind its kid.
+const TRANSCRIPT: usize = 16;
+
+// Where its tag begins.
+const TAG: usize = 48;
+
 // Kept: an alg is a number, since a verifier is asked of any.
 // The one alg that has tags.
 const TAG_ALG: u8 = 3;
@@ -32,9 +38,9 @@ impl<'a> Row<'a> {
         ensures tag { result.tag.now ≡ field 48 16 octets.now }
     {
         Row {
-            kid: &octets[..16],
-            transcript: &octets[16..48],
-            tag: &octets[48..],
+            kid: &octets[..TRANSCRIPT],
+            transcript: &octets[TRANSCRIPT..TAG],
+            tag: &octets[TAG..],
         }
     }
 }
@@ -70,8 +76,8 @@ impl<'a> TagSheet<'a> {
         TagSheet { octets }
     }
 
-    // Kept: here and in the other sheet each question has its own test of a row; what they share is one call of `any`.
     // Whether some row makes the kid known.
+    // Kept: tried, here, in `has_tag` and in the other sheet, as one function over rows of N octets; no proof, since the check covers no `Fn(&[u8; N])` whose N is a parameter, and rows as slices would lose their length.
     fn has_kid(&self, kid: &[u8]) -> bool
         ensures { result ≡ list_any (is_of_kid kid.now) (rows_of 64 self.now.octets.now) }
     {

@@ -2,7 +2,7 @@
 ghost use Rattle.std.specs.Prelude.{◌≡◌, slice_index};
 ghost use Rattle.std.specs.List.{list_any};
 ghost use Rattle.verdicts.specs.Rows.{rows_of, field};
-ghost use Rattle.verdicts.specs.Verdicts.{kind_of, is_pin, is_yes, is_pinned, is_vouched};
+ghost use Rattle.verdicts.specs.Verdicts.{kind_of, Names, is_pin, is_yes, is_pinned, is_vouched};
 ghost use Rattle.verdicts.specs.Sound.{vouched_pinned};
 
 use crate::transcript::Transcript;
@@ -12,6 +12,21 @@ use sha256::digest;
 // The octets of a row.
 const ROW: usize = 82;
 
+// The place of a row's kind.
+const KIND: usize = 0;
+
+// Where its kid begins.
+const KID: usize = 1;
+
+// The place of its alg.
+const ALG: usize = 17;
+
+// Where its transcript's hash begins.
+const TRANSCRIPT: usize = 18;
+
+// Where its signature's hash begins.
+const SIGNATURE: usize = 50;
+
 // What a row says: that a kid is known for an alg, or that a signature is good.
 #[derive(Clone, Copy, PartialEq, Eq)]
 enum Kind {
@@ -19,15 +34,17 @@ enum Kind {
     Yes,
 }
 
-impl Kind {
-    // The kind that an octet names, if it names one.
-    fn of(octet: u8) -> Option<Kind>
-        ensures { result ≡ kind_of octet }
-    {
+// The kind that an octet names, if it names one.
+impl TryFrom<u8> for Kind {
+    type Error = ();
+
+    ghost try_from_gives = { Names };
+
+    fn try_from(octet: u8) -> Result<Kind, ()> {
         match octet {
-            0x00 => Some(Kind::Pin),
-            0x01 => Some(Kind::Yes),
-            _ => None,
+            0x00 => Ok(Kind::Pin),
+            0x01 => Ok(Kind::Yes),
+            _ => Err(()),
         }
     }
 }
@@ -52,11 +69,11 @@ impl<'a> Row<'a> {
         ensures signature { result.signature.now ≡ field 50 32 octets.now }
     {
         Row {
-            kind: Kind::of(octets[0]),
-            kid: &octets[1..17],
-            alg: octets[17],
-            transcript: &octets[18..50],
-            signature: &octets[50..],
+            kind: Kind::try_from(octets[KIND]).ok(),
+            kid: &octets[KID..ALG],
+            alg: octets[ALG],
+            transcript: &octets[TRANSCRIPT..SIGNATURE],
+            signature: &octets[SIGNATURE..],
         }
     }
 }

@@ -4,8 +4,8 @@ ghost use Rattle.verdicts.specs.Transcripts.{octets_of};
 
 use crate::transcript::Transcript;
 
-// Kept: kid, alg, transcript and signature are asked about each by itself, and whoever asks holds them in a message.
 /// A verifier of signatures. Its questions change nothing.
+// Kept: kid, alg, transcript and signature are the parameters of two questions, and no more; a struct of kid and alg would be made at every call only to be taken apart.
 pub trait Verifier {
     // Whether a kid is known for an alg.
     ghost known: { Self → List ℕ → ℕ → Bool };
