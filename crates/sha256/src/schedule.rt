@@ -1,13 +1,12 @@
 // The message schedule of a block.
-ghost use Rattle.std.specs.Prelude.{◌≡◌, ℕ, length};
+ghost use Rattle.std.specs.Prelude.{◌≡◌};
 ghost use Rattle.sha256.specs.Sha256.{scheduled};
 
 use crate::rounds::{small_sigma_0, small_sigma_1};
+use crate::state::BLOCK;
 
-// Kept: a block is a slice of 64 octets, here and where it is compressed: the block begun is an ArrayVec, and no array.
 // The block's 16 words, and 48 more made of them.
-pub(crate) fn schedule(block: &[u8]) -> [u32; 64]
-    requires { length block.now ≡ 64 }
+pub(crate) fn schedule(block: &[u8; BLOCK]) -> [u32; 64]
     ensures { result ≡ scheduled block.now 64 }
 {
     let mut w = [0u32; 64];
