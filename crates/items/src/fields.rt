@@ -9,8 +9,9 @@ use crate::reader::Reader;
 use crate::types::{Major, Span};
 use text::is_text;
 
-// Kept: octets and a place, here and below: who calls has its own place, and passes these calls on by name, as what reads a value.
 // The argument of a shortest head of this major type, and the place behind it.
+// Kept: octets and a place, here and below: a public call takes any place, where a `Reader` has one within its octets; and
+// these calls are passed by name, as what reads a value.
 #[tactic(auto, unfolding(crate::specs::Fields::argument_at, crate::specs::Heads::head_at))]
 fn argument_at(octets: &[u8], place: usize, major: Major) -> Option<(u64, usize)>
     ensures is { result ≡ argument_at (number_of major) octets.now place }

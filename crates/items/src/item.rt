@@ -6,8 +6,8 @@ ghost use Rattle.items.specs.Walks.{walk, Told};
 use crate::reader::Reader;
 use crate::types::{Fault, Keys, MAP_ENTRIES, Major};
 
-// The most items of a message, keys and containers counted.
-const ITEMS: u16 = 1024;
+/// The most items of a message, keys and containers counted.
+pub const ITEMS: u16 = 1024;
 
 // The most items of an array.
 const ARRAY_ITEMS: u64 = 256;

@@ -12,5 +12,7 @@ pub mod types;
 pub use fields::{
     bytes_at, integer_at, key_at, map_at, map_head_at, negative_at, text_at, unsigned_at,
 };
+pub use item::ITEMS;
 pub use map::lookup;
 pub use message::read;
+pub use reader::heads::head_size_at;

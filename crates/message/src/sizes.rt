@@ -1,35 +1,16 @@
 // The sizes of the strings of a message, met head by head from the left.
 ghost use Rattle.std.specs.Prelude.{◌≡◌, ◌<◌, length};
-ghost use Rattle.items.specs.Heads.{head_size};
 ghost use Rattle.items.specs.Reading.{message_items};
 ghost use Rattle.message.specs.Sizes.{up_to, next_head, strings_fit};
 
 use items::types::{Major, Span};
-use items::{bytes_at, text_at};
+use items::{ITEMS, bytes_at, head_size_at, text_at};
 
 // The most octets that a byte string holds.
 const BYTES_MOST: usize = 2048;
 
 // The most octets that a text holds.
 const TEXT_MOST: usize = 256;
-
-// The most items of a message, and so the most heads.
-const ITEMS: usize = 1024;
-
-// How many octets the head at the place has.
-#[tactic(auto, unfolding(items::specs::Heads::head_size))]
-fn head_size(octets: &[u8], place: usize) -> usize
-    requires { place < length octets.now }
-    ensures { result ≡ head_size octets.now place }
-{
-    match octets[place] % 32 {
-        0..=23 => 1,
-        24 => 2,
-        25 => 3,
-        26 => 5,
-        _ => 9,
-    }
-}
 
 // The place behind a string of at most so many octets.
 fn up_to(most: usize, read: Option<(Span, usize)>) -> Option<usize>
@@ -49,7 +30,7 @@ fn next_head(octets: &[u8], place: usize) -> Option<usize>
         Major::Bytes => up_to(BYTES_MOST, bytes_at(octets, place)),
         Major::Text => up_to(TEXT_MOST, text_at(octets, place)),
         _ => {
-            let size = head_size(octets, place);
+            let size = head_size_at(octets, place)?;
             (size <= octets.len() - place).then(|| place + size)
         }
     }
@@ -60,7 +41,7 @@ fn next_head(octets: &[u8], place: usize) -> Option<usize>
 pub(crate) fn strings_fit(octets: &[u8]) -> bool
     ensures { result ≡ strings_fit message_items octets.now 0 }
 {
-    // Kept: no index is counted: each head says where the next one stands, and the range only bounds how many there are.
+    // Kept: each head says where the next one stands, and the definition bounds how many heads there are.
     let mut place = 0;
     for _head in 0..ITEMS {
         if place >= octets.len() {

@@ -1,13 +1,13 @@
 // Reading a head, and what lies behind the head of a string.
-ghost use Rattle.std.specs.Prelude.{◌≡◌, ◌+◌, ◌-◌, ◌*◌, ◌<◌, ◌≤◌, length, IfOk, MatchResult};
+ghost use Rattle.std.specs.Prelude.{◌≡◌, ◌+◌, ◌-◌, ◌*◌, ◌<◌, ◌≤◌, length, cond, nat_lt, Some, None, IfOk, MatchResult};
 ghost use Rattle.items.specs.Heads.{big_endian, width, least, fault_at, head_at, said, head_size, part, Moved, skipped, text_read};
 
 use super::Reader;
 use crate::types::{Fault, Head, Major, Span};
 use text::is_text;
 
-// Kept: five bits of the format, each named by what it announces and matched below; an enum would be made by the same match.
 // Additional information: below `ONE_OCTET` it is the argument itself, from `RESERVED` on it is none.
+// Kept: five bits of the format, each named by what it announces and matched below; an enum would be made by the same match.
 const ONE_OCTET: u8 = 24;
 
 const TWO_OCTETS: u8 = 25;
@@ -18,41 +18,41 @@ const RESERVED: u8 = 28;
 
 const INDEFINITE: u8 = 31;
 
-fn big_endian(octets: &[u8], at: usize, count: usize) -> u64
-    requires within { at + count ≤ length octets.now }
-    requires few { count ≤ 8 }
-    ensures { result ≡ big_endian octets.now at count }
+fn big_endian(octets: &[u8]) -> u64
+    requires few { length octets.now ≤ 8 }
+    ensures { result ≡ big_endian octets.now 0 (length octets.now) }
 {
     let mut value: u64 = 0;
-    for &octet in &octets[at..at + count] {
+    for &octet in octets {
         value = value * 256 + octet as u64;
     }
     value
 }
 
-// How many octets of argument follow this additional information.
-fn width_of(info: u8) -> usize
-    ensures is { result ≡ width info }
-    ensures few { result ≤ 8 }
+// How many octets of argument follow this additional information, and the least argument that needs it.
+fn behind(info: u8) -> (usize, u64)
+    ensures is { result ≡ (width info, least info) }
+    ensures few { result.0 ≤ 8 }
 {
     match info {
-        ONE_OCTET => 1,
-        TWO_OCTETS => 2,
-        FOUR_OCTETS => 4,
-        _ => 8,
+        ONE_OCTET => (1, 24),
+        TWO_OCTETS => (2, 256),
+        FOUR_OCTETS => (4, 65536),
+        _ => (8, 4294967296),
     }
 }
 
-// The least argument that needs this additional information.
-fn least_of(info: u8) -> u64
-    ensures { result ≡ least info }
+/// How many octets the head at the place has; `None` where no octet is left.
+#[tactic(auto, unfolding(crate::specs::Heads::head_size))]
+pub fn head_size_at(octets: &[u8], place: usize) -> Option<usize>
+    ensures { result ≡ cond (nat_lt place (length octets.now)) (Some (head_size octets.now place)) None }
 {
-    match info {
-        ONE_OCTET => 24,
-        TWO_OCTETS => 256,
-        FOUR_OCTETS => 65536,
-        _ => 4294967296,
-    }
+    let info = *octets.get(place)? % 32;
+    Some(if info < ONE_OCTET {
+        1
+    } else {
+        1 + behind(info).0
+    })
 }
 
 impl<'a> Reader<'a> {
@@ -94,6 +94,7 @@ impl<'a> Reader<'a> {
     }
 
     // The next `count` octets. Moves the place past them.
+    // Kept: each method that moves the place, from here on, says that the octets stay: no type says what a `&mut` leaves alone.
     #[tactic(auto, unfolding(crate::specs::Heads::skipped, crate::specs::Spans::shown))]
     fn take(&mut self, count: u64) -> Result<&'a [u8], Fault>
         ensures octets { self.new.octets.now ≡ self.old.octets.now }
@@ -109,7 +110,6 @@ impl<'a> Reader<'a> {
         Ok(taken)
     }
 
-    // Kept: each method that moves the place says that the octets stay: no type says what a `&mut` leaves alone.
     // Moves the place past `count` octets of text.
     #[tactic(auto, unfolding(crate::specs::Heads::text_read, crate::specs::Heads::skipped))]
     pub(crate) fn text(&mut self, count: u64) -> Result<(), Fault>
@@ -133,7 +133,7 @@ impl<'a> Reader<'a> {
     }
 
     // Reads the head at the place, and moves the place past it.
-    #[tactic(auto, unfolding(crate::specs::Heads::head_at, crate::specs::Heads::head_from, crate::specs::Heads::long_head, crate::specs::Heads::head_size))]
+    #[tactic(auto, unfolding(crate::specs::Heads::head_at, crate::specs::Heads::head_from, crate::specs::Heads::long_head, crate::specs::Heads::head_size, crate::specs::Heads::fault_at))]
     pub(crate) fn head(&mut self) -> Result<Head, Fault>
         ensures octets { self.new.octets.now ≡ self.old.octets.now }
         ensures is { said result ≡ head_at self.old.octets.now self.old.place }
@@ -154,21 +154,19 @@ impl<'a> Reader<'a> {
             });
         }
         if info >= RESERVED {
-            if info == INDEFINITE {
-                return Err(Fault::Indefinite);
-            }
-            return Err(Fault::Malformed);
+            return Err(self.fault());
         }
-        let count = width_of(info);
+        let (count, least) = behind(info);
         if self.octets.len() - self.place - 1 < count {
             return Err(Fault::Malformed);
         }
-        let argument = big_endian(self.octets, self.place + 1, count);
-        self.place += 1 + count;
+        let start = self.place + 1;
+        self.place = start + count;
+        let argument = big_endian(&self.octets[start..self.place]);
         Ok(Head {
             major,
             argument,
-            shortest: argument >= least_of(info),
+            shortest: argument >= least,
         })
     }
 }
