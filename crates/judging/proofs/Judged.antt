@@ -18,7 +18,7 @@ use Rattle.judging.specs.declared.answer.Release.{Release}
 use Rattle.judging.specs.declared.answer.Verdict.{Verdict}
 use Rattle.judging.specs.Inputs.{Inputs}
 use Rattle.judging.specs.Frames.{message_in, message_heard}
-use Rattle.judging.specs.Questions.{questions, refused, quiet, unheard_as}
+use Rattle.judging.specs.Questions.{questions, refused, quiet}
 use Rattle.judging.specs.Stages.{message_questions}
 use Rattle.judging.specs.Effects.{offered, Leaves, StoreMoves, left_at}
 use Rattle.judging.proofs.Line.{Says, line_says}
@@ -34,7 +34,23 @@ past true true false x a b d e k = let z : ◌≡◌ {A = ℕ} 0 1 = cc in absur
 past true false w x a b d e k = err_ok OutOfBounds e
 past false u w x a b d e k = err_ok WorkTooShort e
 
--- no frame is heard
+-- the answer where no frame is heard
+abbrev pub unheard_as : Hearing → ℕ → Answer
+unheard_as Quiet next = quiet next
+unheard_as (Refused refusal) next = refused refusal next
+unheard_as (Frame n) next = quiet next
+
+pub refused-no_frame : (h : Hearing) (r : Refusal) → h ≡ Refused r → (n : ℕ) → h ≡ Frame n → ⊥
+refused-no_frame h r e n k = let z : Refused r ≡ Frame n = sym e ∙ k in let u : ◌≡◌ {A = ℕ} 0 1 = cc in absurd (omega arith)
+
+pub refused-unheard : (h : Hearing) (r : Refusal) (next : ℕ) → h ≡ Refused r → refused r next ≡ unheard_as h next
+refused-unheard h r next e = ap (λ x. unheard_as x next) (sym e)
+
+pub quiet-unheard : (h : Hearing) (next : ℕ) → ((r : Refusal) → h ≡ Refused r → ⊥) → ((n : ℕ) → h ≡ Frame n → ⊥) → quiet next ≡ unheard_as h next
+quiet-unheard Quiet next f g = refl
+quiet-unheard (Refused r) next f g = absurd (f r refl)
+quiet-unheard (Frame n) next f g = refl
+
 module _ (rest : ℕ → List ℕ → Questions Answer) (next : ℕ) (octets : List ℕ) (qs : Questions Answer) where
   unheard_first : (h : Hearing) → ((n : ℕ) → h ≡ Frame n → ⊥) → Says rest h next octets qs → unheard_as h next ≡ first qs
   unheard_first Quiet f x = sym x

@@ -3,8 +3,6 @@ use Rattle.std.specs.Prelude.{ℕ, not, length, nat_le, nat_lt}
 use Rattle.answers.specs.declared.refusal.Refusal.{Refusal}
 use Rattle.answers.specs.declared.refusal.Refusal.TheVariants.{WorkTooShort, OutOfBounds, StoreOff, CborParse, Indefinite, NotDeterministic, Schema, ProfileMismatch, SizeLimit, ContextMismatch, KidUnknown, SignatureLength, AuthFail, Replay, Expired, ExpTooFar, UnknownCommand, BadArguments, AllowlistDeny, DuoPolicyUnknown, NoRoom, NotRaised}
 use Rattle.answers.specs.Questions.{Questions, otherwise, ◌⨟◌, ask, found}
-use Rattle.line.specs.declared.heard.Hearing.{Hearing}
-use Rattle.line.specs.declared.heard.Hearing.TheVariants as hearing
 use Rattle.line.specs.Bits.{bits_in}
 use Rattle.line.specs.Hearing.{work_octets, in_bounds, line_questions}
 use Rattle.message.specs.Messages.{is_readable, is_definite, is_deterministic}
@@ -35,12 +33,6 @@ duplicate next = record { verdict = Duplicate; next = next }
 
 abbrev pub released : Release → ℕ → Answer
 released release next = record { verdict = Released release; next = next }
-
--- the answer where the line heard no frame
-abbrev pub unheard_as : Hearing → ℕ → Answer
-unheard_as hearing.Quiet next = quiet next
-unheard_as (hearing.Refused refusal) next = refused refusal next
-unheard_as (hearing.Frame n) next = quiet next
 
 -- a verdict with the next place
 abbrev pub answered : Verdict → ℕ → Answer

@@ -4,7 +4,7 @@ ghost use Rattle.answers.specs.Questions.{first};
 ghost use Rattle.line.specs.Hearing.{laid};
 ghost use Rattle.judging.specs.Inputs.{conditions_of, inputs_of};
 ghost use Rattle.judging.specs.Frames.{message_heard};
-ghost use Rattle.judging.specs.Questions.{answered, questions, refused, unheard_as};
+ghost use Rattle.judging.specs.Questions.{answered, questions, refused};
 ghost use Rattle.judging.specs.Stages.{message_questions};
 ghost use Rattle.judging.specs.Effects.{offered, Leaves, StoreMoves, left_at};
 
@@ -12,7 +12,7 @@ use crate::answer::{Answer, Lent, Listening, Verdict};
 use crate::stages::judge_message;
 use answers::refusal::Refusal;
 use line::frame::{admit, hear};
-use line::heard::{Heard, Hearing};
+use line::heard::Hearing;
 use marks::store::Store;
 use verdicts::Verifier;
 
@@ -26,19 +26,6 @@ fn refuse(refusal: Refusal, next: usize) -> Answer
     Answer {
         verdict: Verdict::Refused(refusal),
         next,
-    }
-}
-
-// The answer where no frame was heard.
-fn unheard(heard: Heard) -> Answer
-    ensures { result ≡ unheard_as heard.hearing heard.next }
-{
-    match heard.hearing {
-        Hearing::Refused(refusal) => refuse(refusal, heard.next),
-        _ => Answer {
-            verdict: Verdict::Quiet,
-            next: heard.next,
-        },
     }
 }
 
@@ -81,8 +68,14 @@ pub fn judge<S: Store, V: Verifier>(store: &mut S, lent: &Lent<'_, V>, work: &mu
         return refuse(Refusal::StoreOff, start);
     };
     let heard = hear(lent.burst, count, start, work);
+    if let Hearing::Refused(refusal) = heard.hearing {
+        return refuse(refusal, heard.next);
+    }
     let Hearing::Frame(length) = heard.hearing else {
-        return unheard(heard);
+        return Answer {
+            verdict: Verdict::Quiet,
+            next: heard.next,
+        };
     };
     let verdict = judge_frame(store, lent, work, length - FCS_OCTETS);
     Answer {

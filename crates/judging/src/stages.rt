@@ -43,9 +43,12 @@ fn mark_of(view: &View, transcript: &Transcript<'_>) -> Mark
     }
 }
 
+// Room, and the write.
 // Kept: each stage requires the power that was asked for once. A struct of the lent store and that fact was tried: the fact has to
 // hold when the loan ends too, and a raise may cut the power.
-// Room, and the write.
+// Kept: by the rules each question's no has an answer of its own, so the stages ask by `let .. else`, one after another, and hand on
+// a Verdict: a duplicate is an answer beside the refusals. `is_listed` is asked apart from `request`, since an unlisted type (21) and
+// bad arguments (22) are two questions of the rules.
 fn raise<S: Store>(store: &mut S, release: Release) -> Verdict
     requires on { (S.state store.old).on ≡ true }
     requires higher { above ((S.state store.old).mark release.pair) release.mark.position ≡ true }

@@ -7,7 +7,7 @@ use marks::mark::Mark;
 // `found` is 1 where the pair has a mark, else all are 0.
 // Kept: the C interface has no `Option`.
 #[repr(C)]
-#[derive(Clone, Copy)]
+#[derive(Clone, Copy, Default)]
 pub struct FoundMark {
     pub found: u8,
     pub epoch: u64,
@@ -19,11 +19,7 @@ impl From<Option<Mark>> for FoundMark {
 
     fn from(mark: Option<Mark>) -> FoundMark {
         match mark {
-            None => FoundMark {
-                found: 0,
-                epoch: 0,
-                counter: 0,
-            },
+            None => FoundMark::default(),
             Some(m) => FoundMark {
                 found: 1,
                 epoch: m.position.epoch,

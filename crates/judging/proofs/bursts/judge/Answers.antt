@@ -7,24 +7,43 @@ use Rattle.judging.specs.Frames.{message_heard}
 use Rattle.judging.specs.Stages.{message_questions}
 use Rattle.judging.specs.Questions.{questions}
 use Rattle.judging.specs.Effects.{Leaves, StoreMoves, left_at, offered}
-use Rattle.judging.proofs.Judged.{judged-frame, judged-none, none_moves, front-is, front_fits, front-first, front-leaves, front-left}
+use Rattle.judging.proofs.Judged.{judged-frame, judged-none, none_moves, quiet-unheard, refused-no_frame, refused-unheard, front-is, front_fits, front-first, front-leaves, front-left}
 use Rattle.judging.proofs.bursts.judge.Goals as goal
 
-pub returns-in_default-hearing : goal.returns-in_default-hearing
-returns-in_default-hearing g c =
+pub returns-in-Refused : goal.returns-in-Refused
+returns-in-Refused g c =
     let i = inputs_of g.V.Verifier.known g.V.Verifier.good c.args.lent.now (length c.args.work.now) in
     let s = g.S.Store.state c.args.store.now in
     let on : s.on ≡ true = sym c.in-true.ensures in
-    let j = judged-none i s c.in_default.ensures on c.hear-heard.result c.hear-heard.ensures.answer c.in_default-hearing.not-Frame in
+    let r = c.hear-heard.result in
+    let f = refused-no_frame r.hearing _ c.in-Refused.is in
+    let j = judged-none i s c.in_default.ensures on r c.hear-heard.ensures.answer f in
+    let e = c.refuse-in-Refused.ensures ∙ refused-unheard r.hearing _ r.next c.in-Refused.is in
     record {
-      answer = c.unheard.ensures ∙ j.first;
-      leaves = subst (λ (a : Answer). Leaves (offered (questions i s)) s a.verdict s) (sym c.unheard.ensures) j.leaves;
+      answer = e ∙ j.first;
+      leaves = subst (λ (a : Answer). Leaves (offered (questions i s)) s a.verdict s) (sym e) j.leaves;
       memory =
-          subst (λ (a : Answer). StoreMoves g.S.Store.touches c.args.store.now a.verdict c.args.store.now) (sym c.unheard.ensures)
-          (none_moves i s c.in_default.ensures on c.hear-heard.result c.hear-heard.ensures.answer c.in_default-hearing.not-Frame g.S.Store.touches c.args.store.now);
-      work =
-          c.hear-heard.ensures.work ∙ ap (laid (length c.args.work.now)) j.octets
-          ∙ ap (λ (a : Answer). laid (length c.args.work.now) (left_at a.verdict (message_heard i))) (sym c.unheard.ensures);
+          subst (λ (a : Answer). StoreMoves g.S.Store.touches c.args.store.now a.verdict c.args.store.now) (sym e)
+          (none_moves i s c.in_default.ensures on r c.hear-heard.ensures.answer f g.S.Store.touches c.args.store.now);
+      work = c.hear-heard.ensures.work ∙ ap (laid (length c.args.work.now)) j.octets ∙ ap (λ (a : Answer). laid (length c.args.work.now) (left_at a.verdict (message_heard i))) (sym e);
+    }
+
+pub returns-in_default-hearing-2 : goal.returns-in_default-hearing-2
+returns-in_default-hearing-2 g c =
+    let i = inputs_of g.V.Verifier.known g.V.Verifier.good c.args.lent.now (length c.args.work.now) in
+    let s = g.S.Store.state c.args.store.now in
+    let on : s.on ≡ true = sym c.in-true.ensures in
+    let r = c.hear-heard.result in
+    let f = c.in_default-hearing-2.not-Frame in
+    let j = judged-none i s c.in_default.ensures on r c.hear-heard.ensures.answer f in
+    let e = quiet-unheard r.hearing r.next c.in_default-hearing.not-Refused f in
+    record {
+      answer = e ∙ j.first;
+      leaves = subst (λ (a : Answer). Leaves (offered (questions i s)) s a.verdict s) (sym e) j.leaves;
+      memory =
+          subst (λ (a : Answer). StoreMoves g.S.Store.touches c.args.store.now a.verdict c.args.store.now) (sym e)
+          (none_moves i s c.in_default.ensures on r c.hear-heard.ensures.answer f g.S.Store.touches c.args.store.now);
+      work = c.hear-heard.ensures.work ∙ ap (laid (length c.args.work.now)) j.octets ∙ ap (λ (a : Answer). laid (length c.args.work.now) (left_at a.verdict (message_heard i))) (sym e);
     }
 
 pub overflow_sub-length : goal.overflow_sub-length
