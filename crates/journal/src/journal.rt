@@ -64,7 +64,8 @@ impl<C: Cells> Journal<C> {
     pub fn source(&self, pair: Pair) -> Option<Source>
         ensures { result ≡ source_in (C.Cells.device self.now.cells).cells pair }
     {
-        // Kept: cells are read by place, and what was found is changed where it changes.
+        // Kept: one pass over cells that are read by place through an interface, so there is no slice to iterate over; the source
+        // found so far is replaced only where a higher record comes.
         let mut found: Option<Source> = None;
         for i in 0..self.cells.count() {
             if let Cell::Held(held) = self.cells.read(i) {

@@ -50,7 +50,7 @@ pub struct OwacCommand {
 // `kind` is 0 for quiet, 1 for a duplicate, 2 for a refusal, whose number is `refusal`, and 3 for a release, which alone has
 // what stands behind `next`; else that is all 0.
 #[repr(C)]
-#[derive(Clone, Copy)]
+#[derive(Clone, Copy, Default)]
 pub struct OwacAnswer {
     pub kind: u8,
     pub refusal: u8,

@@ -49,11 +49,7 @@ fn leaves_in(number: u8) -> CutLeaves
 fn leaves_as(leaves: CutLeaves) -> u8
     ensures { result ≡ leaves_as leaves }
 {
-    match leaves {
-        CutLeaves::Old => 0,
-        CutLeaves::New => 1,
-        CutLeaves::Torn => 2,
-    }
+    leaves as u8
 }
 
 impl From<&OwacSupply> for Supply {
@@ -146,6 +142,8 @@ impl From<Option<Mark>> for OwacMark {
 }
 
 // A command with the text that the numbers tell, if they do.
+// Kept: the definition by which `owac_text` promises its text takes a command without one, `Next`, where the numbers tell none. An
+// Option would be opened again by the one caller, to the same empty text.
 pub(crate) fn text_command(told: &OwacCommand) -> Command
     ensures { result ≡ text_command told.now }
 {
@@ -237,10 +235,7 @@ fn bare(kind: u8, refusal: u8, next: usize) -> OwacAnswer
         kind,
         refusal,
         next,
-        length: 0,
-        pair: OwacPair::default(),
-        mark: OwacMark::default(),
-        command: OwacCommand::default(),
+        ..OwacAnswer::default()
     }
 }
 

@@ -7,8 +7,8 @@ returns c =
       kind = c.args.kind;
       refusal = c.args.refusal;
       next = c.args.next;
-      length = 0;
-      pair = pair_zero _ c.default.ensures i;
-      mark = mark_zero _ c.default-2.ensures i;
-      command = command_zero _ c.default-3.ensures i;
+      length = c.default.ensures.1.1.1.0 i;
+      pair = pair_zero _ c.default.ensures.1.1.1.1.0 i;
+      mark = mark_zero _ c.default.ensures.1.1.1.1.1.0 i;
+      command = command_zero _ c.default.ensures.1.1.1.1.1.1 i;
     }
