@@ -1,7 +1,6 @@
 // A store of marks that outlasts single calls: memory, its power supply, a journal over it, floors on that, and a receiver
 // over them all where a call listens.
-ghost use Rattle.std.specs.Prelude.{◌≡◌, ℕ, Some, None, Option, length, option_map, OnErr, unwrap_or};
-ghost use Rattle.journal.specs.Floors.{on_floor};
+ghost use Rattle.std.specs.Prelude.{◌≡◌, length, OnErr};
 ghost use Rattle.journal.specs.Journals.{state_in};
 ghost use Rattle.judging.specs.Inputs.{inputs_of};
 ghost use Rattle.owac.specs.Calls.{Replies, CallMoves, on_floors};
