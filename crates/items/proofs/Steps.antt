@@ -1,7 +1,7 @@
 -- How an item is read, step by step.
-use Rattle.std.proofs.Common.{◌≡◌, ℕ, zero, suc, ◌+◌, ◌-◌, ◌<◌, ◌≤◌, Bool, true, false, cond, ◌&&◌, eqb, leb, List, [], ◌∷◌, length, Some, None, Ok, Err, Option, Result, sym, refl, ap, ◌∙◌, subst, arith}
+use Rattle.std.proofs.Common.{◌≡◌, ℕ, zero, suc, ◌+◌, ◌-◌, ◌<◌, ◌≤◌, Bool, true, false, cond, ◌&&◌, eqb, leb, List, [], ◌∷◌, length, Some, None, Ok, Err, Option, Result, sym, refl, ap, ◌∙◌, subst, ⊎_elim, arith}
 use Rattle.text.specs.Table.{is_text}
-use Rattle.std.proofs.lemmas.Bool.Decides.{nat_tests}
+use Rattle.std.proofs.lemmas.Bool.Decides.{nat_tests, eqb_tells}
 use Rattle.items.specs.declared.types.Fault.{Fault}
 use Rattle.items.specs.declared.types.Fault.TheVariants.{Malformed}
 use Rattle.items.specs.Keys.{span, judged}
@@ -85,6 +85,16 @@ module _ (d : ℕ) (os : List ℕ) (n : ℕ) (u : Walk) where
   pub inside-map : (d ≡ 0 → ⊥) → inside d os true n u ≡ entries_of (item_of (d - 1) os) os n map_entries [] u
   unfolding inside item_of
   inside-map some = let e : d ≡ suc (d - 1) = omega arith in let P : ℕ → Type 0 = λ k. inside k os true n u ≡ entries_of (item_of (d - 1) os) os n map_entries [] u in subst P (sym e) refl
+
+-- a container where none may lie, a tag, a float or another simple value
+pub body_refused : (d : ℕ) (os : List ℕ) (h : Head) (u : Walk) → 3 < h.major → (h.major ≡ 4 → d ≡ 0) → (h.major ≡ 5 → d ≡ 0) → simple h ≡ false → body_of (inside d os) os h u ≡ Err Malformed
+body_refused d os h u big array-shut map-shut is-not = ⊎_elim
+    (λ z. body-array (inside d os) os h u z.1 ∙ inside-none d os h.argument u false (array-shut z.1))
+    (λ z. ⊎_elim
+    (λ y. body_map (inside d os) os h u y.1 ∙ inside-none d os h.argument u true (map-shut y.1))
+    (λ y. let m = z.1 in let n = y.1 in body-other (inside d os) os h u (omega arith) is-not)
+    (eqb_tells h.major 5))
+    (eqb_tells h.major 4)
 
 -- what is left of an array at its i-th item
 module _ (f : Walk → Result Walk Fault) (os : List ℕ) (n room i : ℕ) (w : Walk) where

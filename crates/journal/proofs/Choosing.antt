@@ -6,6 +6,9 @@ use Rattle.marks.specs.declared.mark.Cell.{Cell}
 use Rattle.journal.specs.Journals.{is_free, any_free, first_free, going_round, start_after, chosen}
 use Rattle.journal.proofs.Sources.{any_none, any_some}
 
+pub counting_less : (a e : ℕ) → a < e → range_with_len a (e - a) ≡ a ∷ range_with_len (a + 1) (e - (a + 1))
+counting_less a e h = let k : e - a ≡ suc (e - (a + 1)) = omega arith in ap (λ n. range_with_len a n) k
+
 counting_none : (a e : ℕ) → e ≤ a → range_with_len a (e - a) ≡ []
 counting_none a e h = let k : e - a ≡ 0 = omega arith in ap (λ n. range_with_len a n) k
 

@@ -51,7 +51,7 @@ impl<S: Store> Store for Floor<S> {
         let mark = self
             .below
             .mark(pair)
-            .filter(|m| m.position >= floor.position);
+            .filter(|m| !m.position.is_before(floor.position));
         Some(mark.unwrap_or(floor))
     }
 
@@ -75,7 +75,7 @@ impl<S: Store> Store for Floor<S> {
         if !self.below.is_on() {
             return Raised::Off;
         }
-        if new.position <= floor_mark(self.epoch).position {
+        if !floor_mark(self.epoch).position.is_before(new.position) {
             return Raised::Low;
         }
         self.below.raise(pair, new)

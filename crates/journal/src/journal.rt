@@ -13,7 +13,7 @@ use marks::store::Store;
 fn takes_over(pair: Pair, held: Record, found: Option<Source>) -> bool
     ensures { result ≡ supersedes pair found held }
 {
-    pair == held.pair && found.is_none_or(|s| s.mark.position < held.mark.position)
+    pair.is_same(held.pair) && found.is_none_or(|s| s.mark.position.is_before(held.mark.position))
 }
 
 // Where to begin to look among n cells, after the one last written.

@@ -1,7 +1,10 @@
 // What a burst is judged by, and what is answered.
+ghost use Rattle.std.specs.Prelude.{◌≡◌, ⊤};
+
 use answers::refusal::Refusal;
 use commands::types::Command;
 use marks::mark::{Mark, Pair};
+use std::alloc::AllocError;
 
 /// How a burst is listened to: so many of its tones, from this one on, at this clock reading in Unix seconds, and whether
 /// the demodulator doubts it.
@@ -22,6 +25,18 @@ pub struct Lent<'a, V> {
     pub burst: &'a [u8],
     pub listening: Listening,
     pub catalog: &'a [u64],
+}
+
+impl<'a, V> Copy for Lent<'a, V> {}
+
+impl<'a, V> Clone for Lent<'a, V> {
+    ghost is_clone = { λ x y. y ≡ x };
+
+    ghost is_infallible = { λ _. ⊤ };
+
+    fn clone(&self) -> Result<Self, AllocError> {
+        Ok(*self)
+    }
 }
 
 /// What is released: a command, with the pair, position and transcript hash of its message, and the message's octets counted.

@@ -9,6 +9,7 @@ use Rattle.answers.specs.declared.refusal.Refusal.{Refusal}
 use Rattle.answers.specs.declared.refusal.Refusal.TheVariants.{WorkTooShort, OutOfBounds, BurstTooLong, Framing, OctetAlign, FcsFail}
 use Rattle.line.specs.Bits.{bits_in, octets_in}
 use Rattle.line.specs.Flags.{first_flag, past_flags, behind_opening, within, body_start, closing, between}
+use Rattle.line.specs.declared.heard.Heard.{Heard}
 use Rattle.line.specs.declared.heard.Hearing.{Hearing}
 use Rattle.line.specs.declared.heard.Hearing.TheVariants.{Quiet, Refused, Frame}
 use Rattle.line.specs.Hearing.{admission, in_bounds, work_octets, hears, laid, line_questions, in_time, longest_body, checked, Fronts, Outcome, hears_line, refused_at, quiet_at, frame_at}
@@ -172,6 +173,16 @@ admitted burst count start work e =
     let p = admitted-by (leb work_octets work) (in_bounds (length burst) count start) (hears_line (bits_in burst count) start) (refused_at OutOfBounds start) (refused_at WorkTooShort start) e in
     let q = and_parts _ _ p.1 in
     record { within = leb-true _ _ q.1; order = leb-true _ _ q.0; room = leb-true _ _ p.0; line = p.2 }
+
+-- what is left in the work buffer
+pub no_front : (o : Outcome) (r : Heard) (work : List ℕ) → o ≡ record { answer = r; octets = [] } → Fronts o.octets work
+no_front o r work e = let x = ap (λ t. t.octets) e in subst (λ t. Fronts t work) (sym x) (record { fits = omega arith; same = refl })
+
+pub frame-front : (o : Outcome) (r : Heard) (n : ℕ) (work : List ℕ) → o ≡ record { answer = r; octets = take n work } → n ≤ length work → Fronts o.octets work
+frame-front o r n work e h =
+    let x = ap (λ t. t.octets) e in
+    let l = length-take-le n work h in
+    subst (λ t. Fronts t work) (sym x) (record { fits = omega arith; same = ap (λ m. take m work) l })
 
 -- the work buffer, cleared behind the front
 pub laid-front : (octets work zeros : List ℕ) (n : ℕ) → Fronts octets work → n ≡ length octets → zeros ≡ replicate (length (drop n work)) 0

@@ -1,5 +1,6 @@
 -- One stretch of bits after another.
-use Rattle.std.proofs.Common.{◌≡◌, ℕ, zero, suc, ◌+◌, ◌-◌, ◌*◌, ◌/◌, ◌^◌, ◌<◌, ◌≤◌, Bool, true, false, List, [], ◌∷◌, ◌++◌, length, get_or, take, drop, replicate, sym, refl, ap, ◌∙◌, subst, append_assoc, append-nil, add-one, one-add, arith}
+use Rattle.std.proofs.Common.{◌≡◌, ℕ, zero, suc, ◌+◌, ◌-◌, ◌*◌, ◌/◌, ◌^◌, ◌<◌, ◌≤◌, Bool, true, false, eqb, List, [], ◌∷◌, ◌++◌, length, get_or, take, drop, replicate, sym, refl, ap, ◌∙◌, subst, append_assoc, append-nil, add-one, one-add, arith}
+use lib.Bits.{bit_and, and_mask}
 use Rattle.std.proofs.lemmas.List.{length-append, take_more, replicate_more}
 use Rattle.std.proofs.lemmas.Nat.{shr-shr}
 use Rattle.std.proofs.lemmas.Bool.{true≢false, false≢true}
@@ -10,7 +11,7 @@ use Rattle.line.specs.Stuffing.{stuff}
 use Rattle.line.specs.Burst.{flags, octet_count, filling}
 use Rattle.line.specs.Sending.{after, sent, count}
 use Rattle.line.specs.Sinks.{behind_more, octets_le}
-use Rattle.line.proofs.Lengths.{held-zero}
+use Rattle.line.proofs.Lengths.{length_bits_of, held-zero}
 use Rattle.line.proofs.Pack.{bits_of_append}
 
 pub stuff-append : (n : ℕ) (xs ys : List Bool) → stuff n (xs ++ ys) ≡ stuff n xs ++ stuff (after n xs) ys
@@ -62,6 +63,9 @@ length-stuff (suc n) (false ∷ xs) = let h = length-stuff 4 xs in omega arith
 length-stuff zero (true ∷ xs) = let h = length-stuff 4 xs in omega arith
 length-stuff (suc n) (true ∷ xs) = let h = length-stuff n xs in omega arith
 
+pub bits_most : (n : ℕ) (os : List ℕ) → length (stuff n (bits_of os)) ≤ 16 * length os
+bits_most n os = let a = length-stuff n (bits_of os) in let b = length_bits_of os in omega arith
+
 pub low-more : (n x : ℕ) → low (n + 1) x ≡ low n x ++ odd (x / 2 ^ n) ∷ []
 unfolding low
 low-more zero x = let e : x / 2 ^ 0 ≡ x = omega arith in rw e
@@ -69,6 +73,9 @@ low-more (suc n) x =
     let a : suc n + 1 ≡ suc (n + 1) = omega arith in
     let b : x / 2 / 2 ^ n ≡ x / 2 ^ suc n = rw (← one-add n) (shr-shr x 1 n) in
     rw a (ap (λ z. odd x ∷ z) (low-more n (x / 2) ∙ ap (λ z. low n (x / 2) ++ odd z ∷ []) b))
+
+pub low-more_bit : (n x : ℕ) → low (n + 1) x ≡ low n x ++ eqb (bit_and (x / 2 ^ n) 1) 1 ∷ []
+low-more_bit n x = low-more n x ∙ ap (λ t. low n x ++ eqb t 1 ∷ []) (sym (and_mask (x / 2 ^ n) 1))
 
 pub bits_of_more : (os : List ℕ) (i : ℕ) → i < length os → bits_of (take (i + 1) os) ≡ bits_of (take i os) ++ low 8 (get_or os i 0)
 unfolding bits_of

@@ -20,6 +20,7 @@ pub struct Decoder {
 
 impl Decoder {
     // A decoder whose next tone is tone k. In front of tone 0 stands mark.
+    #[tactic(auto, unfolding(crate::specs::Bits::tone_before))]
     pub(crate) fn at(octets: &[u8], k: usize) -> Decoder
         requires { k ≤ 8 * length octets.now }
         ensures { result.last ≡ tone_before octets.now k }

@@ -1,5 +1,5 @@
 -- What is read lies within the octets.
-use Rattle.std.proofs.Common.{◌≡◌, ℕ, ◌+◌, ◌-◌, ◌/◌, ◌%◌, ◌<◌, ◌≤◌, Bool, true, false, cond, ◌&&◌, eqb, ltb, leb, List, length, get_or, MatchOption, Some, None, Ok, Err, Option, Result, sym, refl, ap, ◌∙◌, arith}
+use Rattle.std.proofs.Common.{◌≡◌, ℕ, ◌+◌, ◌-◌, ◌/◌, ◌%◌, ◌<◌, ◌≤◌, Bool, true, false, cond, ◌&&◌, eqb, ltb, leb, List, length, get_or, drop, IfSome, MatchOption, Some, None, Ok, Err, Option, Result, sym, refl, ap, ◌∙◌, arith, length-drop, length-take-le}
 use Rattle.std.proofs.lemmas.Bool.Decides.{nat_tests}
 use Rattle.std.proofs.lemmas.Bool.{and_parts}
 use Rattle.std.proofs.lemmas.Option.{cond_some, same_Some}
@@ -45,9 +45,16 @@ pub lies_shown : (os : List ℕ) (s : Span) (q : ℕ) → Lies os s q → shown 
 unfolding shown
 lies_shown os s q l = grind (arith, nat_tests, l.on, l.within)
 
+pub part-long : (os : List ℕ) (p n : ℕ) → p + n ≤ length os → length (part os p n) ≡ n
+part-long os p n h = length-take-le n (drop p os) (omega (arith, length-drop p os))
+
 pub id_some : (os : List ℕ) (p : ℕ) (s : Span) (q : ℕ) → Some (s, q) ≡ string_at 2 os p → s.len ≡ 16 → id_at os p ≡ Some (part os s.start 16, q)
 unfolding id_at
 id_some os p s q is sixteen = rw (sym is) (grind (arith, nat_tests))
+
+pub for_some : {X : Type 0} (r : Option X) {P : Type 0} → P → IfSome r (λ _. P)
+for_some None h = tt
+for_some (Some x) h = h
 
 cond_ok : {X E : Type 0} (b : Bool) (r : Result X E) (e : E) (x : X) → cond b r (Err e) ≡ Ok x → (b ≡ true) × (r ≡ Ok x)
 cond_ok true r e x is = (refl, is)

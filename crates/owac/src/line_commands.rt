@@ -2,11 +2,11 @@
 ghost use Rattle.std.specs.Prelude.{◌≡◌, ℕ, ◌<◌, length, Decides, slice_index};
 
 use crate::arguments::Arguments;
-use crate::shown::Hex;
 use crate::unreadable::Unreadable;
 use line::heard::{Heard, Hearing};
 use line::{burst, check, frame};
 use std::fmt;
+use words::hex::Hex;
 
 // What lies in a buffer before a call.
 const FILLING: u8 = 0xA5;

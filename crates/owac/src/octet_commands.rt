@@ -1,9 +1,10 @@
 // Commands on octets alone: their digest, and whether they are text.
 use crate::arguments::Arguments;
-use crate::shown::{Hex, YesNo};
+use crate::shown::YesNo;
 use crate::unreadable::Unreadable;
 use sha256::digest;
 use text::is_text;
+use words::hex::Hex;
 
 // `sha HEX`
 pub fn sha(words: &mut Arguments<'_>) -> Result<String, Unreadable> {

@@ -1,6 +1,6 @@
 // A store of marks that outlasts single calls: memory, its power supply, a journal over it, floors on that, and a receiver
 // over them all where a call listens.
-ghost use Rattle.std.specs.Prelude.{◌≡◌, length, OnErr};
+ghost use Rattle.std.specs.Prelude.{◌≡◌, ⊤, length, OnErr};
 ghost use Rattle.journal.specs.Journals.{state_in};
 ghost use Rattle.judging.specs.Inputs.{inputs_of};
 ghost use Rattle.owac.specs.Calls.{Replies, CallMoves, on_floors};
@@ -19,6 +19,7 @@ use marks::power::Power;
 use marks::store::Store;
 use marks::table::{TABLE_CELLS, TableCells};
 use receiver::receiver::Receiver;
+use std::alloc::AllocError;
 use verdicts::Verifier;
 
 // The octets of a cell in an image.
@@ -45,6 +46,18 @@ pub enum Call<'a, V> {
     ReadMark(Pair),
     HasRoom(Pair),
     Listen(Lent<'a, V>),
+}
+
+impl<'a, V> Copy for Call<'a, V> {}
+
+impl<'a, V> Clone for Call<'a, V> {
+    ghost is_clone = { λ x y. y ≡ x };
+
+    ghost is_infallible = { λ _. ⊤ };
+
+    fn clone(&self) -> Result<Self, AllocError> {
+        Ok(*self)
+    }
 }
 
 // What is answered.

@@ -7,7 +7,6 @@ use crate::line_commands::WORK_MOST;
 use crate::pile::{Call, Pile, Reply};
 use crate::receiver_commands::Heed;
 use crate::sheet::Sheet;
-use crate::shown::Hex;
 use crate::unreadable::Unreadable;
 use crate::{
     line_commands, message_commands, octet_commands, receiver_commands, sheet_commands,
@@ -19,6 +18,7 @@ use std::alloc::Global;
 use std::fmt;
 use std::io::{BufRead, BufReader, BufWriter, Write};
 use std::str::from_utf8;
+use words::hex::Hex;
 
 // A command that was released, and the work buffer with its message.
 #[derive(Drop)]

@@ -1,42 +1,9 @@
 // Values as they stand in the lines that the program prints.
-ghost use Rattle.std.specs.Prelude.{Some};
-ghost use Rattle.words.specs.Hex.{hex_text, word_of};
-
 use commands::types::{Request, Track};
 use items::types::Span;
 use marks::mark::Record;
 use std::fmt;
-
-// The digits of octets, two each.
-#[derive(Clone, Copy)]
-struct Digits<'a>(&'a [u8]);
-
-impl fmt::Display for Digits<'_> {
-    ghost output = { λ octets. Some (hex_text octets.0.now) };
-
-    fn fmt<W: fmt::Write>(&self, f: &mut fmt::Formatter<W>) -> fmt::Result {
-        for octet in self.0 {
-            let octet = *octet;
-            write!(f, "{octet:02X}")?;
-        }
-        Ok(())
-    }
-}
-
-// Octets as the word that names them: their digits, and `-` for none.
-#[derive(Clone, Copy)]
-pub struct Hex<'a>(pub &'a [u8]);
-
-impl fmt::Display for Hex<'_> {
-    ghost output = { λ octets. Some (word_of octets.0.now) };
-
-    fn fmt<W: fmt::Write>(&self, f: &mut fmt::Formatter<W>) -> fmt::Result {
-        match self.0 {
-            [] => f.write_str("-"),
-            octets => write!(f, "{}", Digits(octets)),
-        }
-    }
-}
+use words::hex::{Digits, Hex};
 
 // A byte string as `x` and the digits of its octets.
 #[derive(Clone, Copy)]

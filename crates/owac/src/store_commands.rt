@@ -3,12 +3,13 @@ use crate::arguments::Arguments;
 use crate::pile::{Call, Memory, Pile, Reply, octets_of};
 use crate::receiver_commands::Answered;
 use crate::sheet::Sheet;
-use crate::shown::{Hex, YesNo};
+use crate::shown::YesNo;
 use crate::unreadable::Unreadable;
 use marks::mark::{Cell, CutLeaves, Mark, Pair, Position, Raised};
 use marks::power::Power;
 use marks::table::TABLE_CELLS;
 use std::fmt;
+use words::hex::Hex;
 
 // `power=on|off charge=N cut=old|new|torn`, which ends the line.
 fn power(words: &mut Arguments<'_>) -> Result<Power, Unreadable> {

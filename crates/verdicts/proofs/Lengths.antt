@@ -1,13 +1,22 @@
 -- A tag has as many octets as its field.
-use Rattle.std.proofs.Common.{◌≡◌, ℕ, zero, suc, ◌*◌, ◌/◌, ◌≤◌, Bool, true, ◌&&◌, eqb, List, length, take, drop, sym, ap, ◌∙◌, ⊎_elim, arith, length-drop, length-take-le}
+use Rattle.std.proofs.Common.{◌≡◌, ℕ, zero, suc, ◌+◌, ◌*◌, ◌/◌, ◌≤◌, Bool, true, ◌&&◌, eqb, List, ◌∷◌, ◌++◌, length, take, drop, sym, ap, ◌∙◌, ⊎_elim, arith, length-drop, length-take-le}
 use Rattle.std.specs.List.{list_any}
 use Rattle.std.specs.Simd.{first_chunks}
 use Rattle.std.specs.Str.{bytes_eq}
+use Rattle.std.proofs.lemmas.List.{length-append, take_at, drop_at}
 use Rattle.std.proofs.lemmas.Slice.Eq.{bytes_eq-Decides}
 use Rattle.std.proofs.lemmas.Bool.{and_parts, or_cases, true≢false}
 use Rattle.sha256.specs.Sha256.{sha256_of}
 use Rattle.verdicts.specs.Rows.{rows_of, field}
 use Rattle.verdicts.specs.Tags.{is_of_kid, is_tag, is_tagged}
+
+module _ (n : ℕ) (more : (m : ℕ) → (n + m) / n ≡ suc (m / n)) (is : List ℕ → Bool) (row rest : List ℕ) (whole : length row ≡ n) where
+  first_row : rows_of n (row ++ rest) ≡ row ∷ rows_of n rest
+  first_row =
+      let count : length (row ++ rest) / n ≡ suc (length rest / n) = ap (λ k. k / n) (length-append row rest ∙ ap (λ k. k + length rest) whole) ∙ more (length rest) in
+      let t = take_at row rest n whole in
+      let d = drop_at row rest n whole in
+      ap (λ k. first_chunks n k (row ++ rest)) count ∙ (λ i. t i ∷ first_chunks n (length rest / n) (d i))
 
 module _ (is : List ℕ → Bool) (Q : Type 0) (so : (row : List ℕ) → length row ≡ 64 → is row ≡ true → Q) where
   -- what follows from any whole row that is asked for follows where there is one

@@ -5,6 +5,7 @@ use Rattle.std.specs.Fmt.{padded_integral, format_spec, digits}
 use Rattle.std.proofs.lemmas.List.{ext_get_or, get_or_append_left, get_or_push, flat_map_more, take_more, take_all, get_or-take, get_or-drop, drop-drop}
 use Rattle.std.specs.Simd.{first_chunks}
 use Rattle.words.specs.Hex.{octet_of, hex_of, hex_text, SpeltTo, Spells, Octets, HexBack, OctetBack}
+use Rattle.std.specs.List.{flat_map}
 
 some_same : {x y : ℕ} → Some x ≡ Some y → x ≡ y
 some_same e = ap (λ o. unwrap_or o 0) e
@@ -98,3 +99,13 @@ digits_more s a b os i inside ea eb =
 -- the digits of all octets
 pub digits-whole : (s os : List ℕ) (i : ℕ) → length os ≤ i → s ++ hex_text (take i os) ≡ s ++ hex_text os
 digits-whole s os i h = ap (λ x. s ++ hex_text x) (take_all i os h)
+
+-- the pairs of digits of all octets, one behind the other
+pub pairs_hex : (os : List ℕ) (pairs : List (List ℕ)) → length pairs ≡ length os → ((i : ℕ) → i < length os → get_or pairs i [] ≡ hex_of (get_or os i 0)) → flat_map (λ pair. pair) pairs ≡ hex_text os
+pairs_hex [] [] long each = refl
+pairs_hex [] (pair ∷ pairs) long each = absurd (omega (arith, long))
+pairs_hex (o ∷ os) [] long each = absurd (omega (arith, long))
+pairs_hex (o ∷ os) (pair ∷ pairs) long each =
+    let rest = pairs_hex os pairs (omega (arith, long)) (λ i l. each (suc i) (omega (arith, l))) in
+    let here : pair ≡ hex_of o = each 0 (omega arith) in
+    (λ i. here i ++ rest i)
