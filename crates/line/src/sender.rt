@@ -1,5 +1,5 @@
 // Puts a frame into a sink.
-ghost use Rattle.std.specs.Prelude.{◌≡◌, ◌+◌, ◌-◌, ◌<◌, [], ◌∷◌};
+ghost use Rattle.std.specs.Prelude.{◌≡◌, [], ◌∷◌};
 ghost use Rattle.line.specs.Bits.{low, bits_of};
 ghost use Rattle.line.specs.Flags.{flag};
 ghost use Rattle.line.specs.Stuffing.{stuff};
@@ -12,21 +12,20 @@ use crate::sink::Sink;
 // The bits of a flag.
 const FLAG: [bool; 8] = [false, true, true, true, true, true, true, false];
 
-// The 1s in a row that bring a 0.
-const RUN: u8 = 5;
+// The 1s in a row behind which one more brings a 0.
+const RUN: u8 = 4;
 
-// Where bits go, and how many more 1s bring a 0.
+// Where bits go, and how many 1s, less one, bring a 0.
 pub struct Sender<S> {
     sink: S,
     left: u8,
-    ghost some: { 0 < left },
 }
 
 // What runs for each octet goes inline: the sink's state then stays in registers, which writes a tenth faster.
 impl<S: Sink> Sender<S> {
     pub(crate) fn new(sink: S) -> Sender<S>
         ensures sink { result.sink ≡ sink }
-        ensures left { result.left ≡ 5 }
+        ensures left { result.left ≡ 4 }
     {
         Sender { sink, left: RUN }
     }
@@ -40,22 +39,25 @@ impl<S: Sink> Sender<S> {
 
     // One bit, and a 0 behind the fifth 1.
     fn put_stuffed(&mut self, bit: bool)
-        ensures takes { S.takes self.old.sink (stuff (self.old.left - 1) (bit ∷ [])) self.new.sink }
-        ensures left { self.new.left ≡ after (self.old.left - 1) (bit ∷ []) + 1 }
+        ensures takes { S.takes self.old.sink (stuff self.old.left (bit ∷ [])) self.new.sink }
+        ensures left { self.new.left ≡ after self.old.left (bit ∷ []) }
     {
         self.sink.put(bit);
-        self.left = if bit { self.left - 1 } else { RUN };
-        if self.left == 0 {
+        if !bit {
+            self.left = RUN;
+        } else if self.left == 0 {
             self.sink.put(false);
             self.left = RUN;
+        } else {
+            self.left -= 1;
         }
     }
 
     // One octet, stuffed.
     #[inline(always)]
     fn put_octet(&mut self, octet: u8)
-        ensures takes { S.takes self.old.sink (stuff (self.old.left - 1) (low 8 octet)) self.new.sink }
-        ensures left { self.new.left ≡ after (self.old.left - 1) (low 8 octet) + 1 }
+        ensures takes { S.takes self.old.sink (stuff self.old.left (low 8 octet)) self.new.sink }
+        ensures left { self.new.left ≡ after self.old.left (low 8 octet) }
     {
         for i in 0..8 {
             self.put_stuffed(bit(octet, i));
@@ -65,8 +67,8 @@ impl<S: Sink> Sender<S> {
     // Octets, stuffed.
     #[inline(always)]
     pub(crate) fn put_octets(&mut self, octets: &[u8])
-        ensures takes { S.takes self.old.sink (stuff (self.old.left - 1) (bits_of octets.now)) self.new.sink }
-        ensures left { self.new.left ≡ after (self.old.left - 1) (bits_of octets.now) + 1 }
+        ensures takes { S.takes self.old.sink (stuff self.old.left (bits_of octets.now)) self.new.sink }
+        ensures left { self.new.left ≡ after self.old.left (bits_of octets.now) }
     {
         for octet in octets {
             self.put_octet(*octet);

@@ -1,7 +1,11 @@
 -- How text is read, character by character.
-use Rattle.std.proofs.Common.{IsAscii, ◌≡◌, ℕ, zero, suc, ◌-◌, ◌<◌, ◌≤◌, Bool, true, false, ◌&&◌, ltb, List, [], ◌∷◌, length, get_or, take, drop, refl, ap, ◌∙◌, arith}
+use Rattle.std.proofs.Common.{IsAscii, ◌≡◌, ℕ, zero, suc, ◌+◌, ◌-◌, ◌<◌, ◌≤◌, Bool, true, false, ◌&&◌, ltb, not, cond, Option, Some, None, List, [], ◌∷◌, length, get_or, take, drop, refl, sym, ap, one-add, ◌∙◌, arith}
 use Rattle.std.proofs.lemmas.List.{take_all, length-drop}
 use Rattle.std.proofs.lemmas.Bool.Decides.{nat_tests}
+use Rattle.std.specs.List.{position_or_len}
+use Rattle.std.specs.Option.{unwrap_or}
+use Rattle.std.proofs.lemmas.List.Sums.{prefix_len-le-length}
+use Rattle.std.proofs.lemmas.Bool.{ltb-true, ltb-false}
 use Rattle.text.specs.Table.{tails, low, high, within, text_after, is_text}
 
 -- with none due, the limits do not matter
@@ -60,13 +64,39 @@ three_tails a (b ∷ []) e l = absurd (omega arith)
 three_tails a (b ∷ d ∷ []) e l = absurd (omega arith)
 three_tails a (b ∷ d ∷ f ∷ bs) e l = lead 3 a (b ∷ d ∷ f ∷ bs) e (omega arith)
 
+-- a letter of ASCII
+pub ascii_first : (b : ℕ) (bs : List ℕ) → b < 128 → is_text (b ∷ bs) ≡ is_text bs
+ascii_first b bs small = let none : tails b ≡ 0 = grind (arith, nat_tests) in no_tails b bs none
+
+-- whether an octet is not ASCII
+abbrev pub not_ascii : ℕ → Bool
+not_ascii b = not (ltb b 128)
+
+-- how many octets of ASCII stand in front
+abbrev pub ascii_count : List ℕ → ℕ
+ascii_count bs = position_or_len not_ascii bs
+
+-- what stands behind them answers as the whole does
+pub ascii_front : (bs : List ℕ) → is_text bs ≡ is_text (drop (ascii_count bs) bs)
+ascii_front [] = refl
+ascii_front (b ∷ bs) = by (ltb b 128) refl (ascii_front bs)
+  where
+    by : (t : Bool) → ltb b 128 ≡ t → is_text bs ≡ is_text (drop (ascii_count bs) bs) → is_text (b ∷ bs) ≡ is_text (drop (cond (not (not t)) (1 + ascii_count bs) 0) (b ∷ bs))
+    by true e behind_it = ascii_first b bs (ltb-true b 128 e) ∙ behind_it ∙ ap (λ k. is_text (drop k (b ∷ bs))) (sym (one-add (ascii_count bs)))
+    by false e behind_it = refl
+
+-- a search finds their number, or nothing, and then all are ASCII
+pub found : (bs : List ℕ) (r : Option ℕ) → r ≡ cond (ltb (ascii_count bs) (length bs)) (Some (ascii_count bs)) None → unwrap_or r (length bs) ≡ ascii_count bs
+found bs r e = by (ltb (ascii_count bs) (length bs)) refl
+  where
+    by : (t : Bool) → ltb (ascii_count bs) (length bs) ≡ t → unwrap_or r (length bs) ≡ ascii_count bs
+    by true h = ap (λ o. unwrap_or o (length bs)) (e ∙ ap (λ z. cond z (Some (ascii_count bs)) None) h)
+    by false h = let m = prefix_len-le-length (λ b. not (not_ascii b)) bs in let l : length bs ≤ ascii_count bs = ltb-false (ascii_count bs) (length bs) h in ap (λ o. unwrap_or o (length bs)) (e ∙ ap (λ z. cond z (Some (ascii_count bs)) None) h) ∙ omega arith
+
 pub ascii_text : (bs : List ℕ) → IsAscii bs → is_text bs ≡ true
 unfolding text_after
 ascii_text [] h = refl
-ascii_text (b ∷ bs) h =
-    let small : b < 128 = h 0 in
-    let none : tails b ≡ 0 = grind (arith, nat_tests) in
-    no_tails b bs none ∙ ascii_text bs (λ i. h (suc i))
+ascii_text (b ∷ bs) h = ascii_first b bs (h 0) ∙ ascii_text bs (λ i. h (suc i))
 
 pub ended : (bs : List ℕ) → length bs ≡ 0 → is_text bs ≡ true
 unfolding text_after

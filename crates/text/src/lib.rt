@@ -54,21 +54,33 @@ fn behind_tails(first: u8, octets: &[u8]) -> Option<&[u8]>
     }
 }
 
+// The octets from the first that is not ASCII.
+fn behind_ascii(octets: &[u8]) -> &[u8]
+    ensures { (is_text octets.now ≡ is_text result.now) × (length result.now ≤ length octets.now) }
+{
+    let ascii = octets
+        .iter()
+        .position(|octet| !octet.is_ascii())
+        .unwrap_or(octets.len());
+    &octets[ascii..]
+}
+
 /// Whether the octets are UTF-8: whole characters, none overlong, no surrogate, none above 10FFFF.
 // Kept: `str::from_utf8` answers the same, as clause `utf8` says; the table stands here so that each of its bounds can be turned by an edit and is refused.
 pub fn is_text(octets: &[u8]) -> bool
     ensures is { result ≡ is_text octets.now }
     ensures utf8 { TextIsUtf8 }
 {
+    // Many octets at a time: most text is ASCII alone.
     if octets.is_ascii() {
         return true;
     }
-    let mut rest = octets;
+    let mut rest = behind_ascii(octets);
     while let Some((first, behind)) = rest.split_first() {
         let Some(next) = behind_tails(*first, behind) else {
             return false;
         };
-        rest = next;
+        rest = behind_ascii(next);
     }
     true
 }

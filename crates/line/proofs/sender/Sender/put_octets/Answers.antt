@@ -11,9 +11,9 @@ loop-octet-init g c = stuffs-none g.S.Sink.takes g.met.S.Sink.nothing _ _
 pub loop-octet-preserved : goal.loop-octet-preserved
 loop-octet-preserved g c =
     stuffs-more g.S.Sink.takes g.met.S.Sink.more _ _ _ _ _ _ _ _ _ (bits_of_more c.args.octets.now c.loop-octet.octet-index (omega arith)) c.loop-octet.invariant
-    c.put_octet.ensures.takes (let l = c.put_octet.ensures.left in omega arith)
+    c.put_octet.ensures.takes c.put_octet.ensures.left
 
 pub returns : goal.returns
 returns g c =
     let all : take c.loop-octet.octet-index c.args.octets.now ≡ c.args.octets.now = take_all _ _ (omega arith) in
-    record { takes = rw all at c.loop-octet.invariant.takes; left = let k = c.loop-octet.self.some in let l = rw all at c.loop-octet.invariant.left in omega arith }
+    record { takes = rw all at c.loop-octet.invariant.takes; left = rw all at c.loop-octet.invariant.left }
